@@ -4,11 +4,12 @@ use Rattle.std.specs.Result.{IfOk, IfErr}
 use Rattle.fb_model.specs.Certificates as book
 use Rattle.fb_model.specs.CertificateText.{Spells, most_characters}
 use Rattle.fb_cert.specs.declared.lists.Lists.{Lists}
-use Rattle.fb_cert.specs.declared.fault.CertFault.{CertFault}
-use Rattle.fb_cert.specs.declared.fault.CertFault.TheVariants.{OutOfMemory, TooLong, Row, DuplicateRow}
+use Rattle.fb_faults.specs.declared.certificate.CertFault.{CertFault}
+use Rattle.fb_faults.specs.declared.certificate.CertFault.TheVariants.{OutOfMemory, TooLong, Row, DuplicateRow}
 use Rattle.fb_cert.specs.Views.{Rows, rows_in, book_of}
 use Rattle.fb_cert.specs.Reading.{text_at}
-use Rattle.fb_cert.specs.Answers.{Gives, Finds, Faulty, Refuses, Tells}
+use Rattle.fb_cert.specs.Answers.{Gives, Finds, Tells}
+use Rattle.fb_model.specs.RefusedCertificates.{Faulty, Refuses}
 use Rattle.fb_cert.specs.Sayable.{AreSayable}
 use Rattle.fb_cert.proofs.Capitals.{text_sayable}
 use Rattle.fb_cert.proofs.Refusals.{text_told}

@@ -9,7 +9,7 @@ use Rattle.std.specs.Str.Lines.{lines, lines_of_parts, strip_carriage_return}
 use Rattle.std.proofs.lemmas.Str.Ascii.{uppercase-uppercase}
 use Rattle.fb_model.specs.Spelling.{upper}
 use Rattle.fb_model.specs.CertificateText.{words, Written, written, rows_from, TextRow, IsWhole, plain, negative, IsNumberIn, IsTextRow, a_repeats, a_range, a_charge, a_weight, a_depth, a_far, a_far_state, a_channel, begins_cert, most_lint, most_characters}
-use Rattle.fb_cert.specs.declared.fault.CertFault.TheVariants.{TooLong, Row, DuplicateRow}
+use Rattle.fb_faults.specs.declared.certificate.CertFault.TheVariants.{TooLong, Row, DuplicateRow}
 use Rattle.fb_cert.specs.Views.{Rows, no_rows, has_row, with_row}
 use Rattle.fb_cert.specs.Sayable.{IsWithin, IsSayable, AreSayable}
 use Rattle.fb_cert.specs.Reading.{read, text_row_at, is_head, entered, row_at, lines_at, whole, text_at}

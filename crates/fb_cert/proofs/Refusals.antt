@@ -5,11 +5,11 @@ use Rattle.std.proofs.lemmas.List.{append-nil}
 use Rattle.std.proofs.lemmas.Bool.{lt-ltb, false_from_ne_true}
 use Rattle.fb_model.specs.Spelling.{upper}
 use Rattle.fb_model.specs.CertificateText.{Written, rows, TextRow, AreTextRows, no_text_row, text_row, Reaches, IsWrong, no_row, no_head, no_row_word, IsRepeated, head_again, path_again, most_characters}
-use Rattle.fb_cert.specs.declared.fault.CertFault.{CertFault}
-use Rattle.fb_cert.specs.declared.fault.CertFault.TheVariants.{OutOfMemory, TooLong, Row, DuplicateRow}
+use Rattle.fb_faults.specs.declared.certificate.CertFault.{CertFault}
+use Rattle.fb_faults.specs.declared.certificate.CertFault.TheVariants.{OutOfMemory, TooLong, Row, DuplicateRow}
 use Rattle.fb_cert.specs.Views.{no_rows, with_row}
 use Rattle.fb_cert.specs.Reading.{read, text_row_at, is_head, entered, row_at, lines_at, whole, text_at}
-use Rattle.fb_cert.specs.Answers.{Faulty}
+use Rattle.fb_model.specs.RefusedCertificates.{Faulty}
 use Rattle.fb_cert.proofs.Entries.{entry_found, entry_read, entry_no_cert, head_found, head_read}
 use Rattle.fb_cert.proofs.ByKind.{rows_in, has_in, AreNew, all_new}
 use Rattle.fb_cert.proofs.Texts.{next_rows, rest_at, all_at, row_read, text_rows}

@@ -8,11 +8,11 @@ use Rattle.std.proofs.lemmas.Bool.{ltb-false, ltb-true, le-ltb}
 use Rattle.fb_model.specs.Certificates as book
 use Rattle.fb_model.specs.Spelling.{upper}
 use Rattle.fb_model.specs.CertificateText.{Written, written, words, rows_from, rows, begins_cert, TextRow, is_same, IsTextRow, AreTextRows, no_text_row, text_row, Spells, Reaches, no_row, no_head, no_row_word, head_again, path_again, most_characters}
-use Rattle.fb_cert.specs.declared.fault.CertFault.{CertFault}
-use Rattle.fb_cert.specs.declared.fault.CertFault.TheVariants.{TooLong, Row, DuplicateRow}
+use Rattle.fb_faults.specs.declared.certificate.CertFault.{CertFault}
+use Rattle.fb_faults.specs.declared.certificate.CertFault.TheVariants.{TooLong, Row, DuplicateRow}
 use Rattle.fb_cert.specs.Views.{Rows, no_rows, has_row, with_row, book_of}
 use Rattle.fb_cert.specs.Reading.{Read, read, text_row_at, is_head, entered, row_at, behind, words_at, chain, lines_at, whole, text_at}
-use Rattle.fb_cert.specs.Answers.{Refuses}
+use Rattle.fb_model.specs.RefusedCertificates.{Refuses}
 use Rattle.fb_cert.proofs.Deciding.{chosen, some_length}
 use Rattle.fb_cert.proofs.Entries.{entry_found, entry_read, entry_no_cert, head_found, head_read}
 use Rattle.fb_cert.proofs.ByKind.{rows_in, book_in, has_in, with_in, AreNew, none_twice, all_new}

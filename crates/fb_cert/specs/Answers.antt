@@ -1,8 +1,7 @@
 -- What the code's answers are in the words of the readers.
-use Rattle.std.specs.Prelude.{◌≡◌, ◌<◌, ◌≤◌, ℕ, List, length, Result, Ok, Err}
-use Rattle.fb_model.specs.CertificateText.{IsWrong, IsRepeated, most_characters}
-use Rattle.fb_cert.specs.declared.fault.CertFault.{CertFault}
-use Rattle.fb_cert.specs.declared.fault.CertFault.TheVariants.{OutOfMemory, TooLong, Row, DuplicateRow}
+use Rattle.std.specs.Prelude.{◌≡◌, Result, Ok, Err}
+use Rattle.fb_faults.specs.declared.certificate.CertFault.{CertFault}
+use Rattle.fb_faults.specs.declared.certificate.CertFault.TheVariants.{OutOfMemory, TooLong, Row, DuplicateRow}
 
 abbrev pub Fails : {Y : Type 0} → CertFault → Result Y CertFault → Type 0
 Fails OutOfMemory read = Unit {0}
@@ -27,20 +26,6 @@ Finds view (Err OutOfMemory) y = Unit {0}
 Finds view (Err TooLong) y = ⊥
 Finds view (Err (Row line)) y = ⊥
 Finds view (Err (DuplicateRow line)) y = ⊥
-
--- the fault is the text's first
-abbrev pub Faulty : List ℕ → CertFault → Type 0
-Faulty text OutOfMemory = ⊥
-Faulty text TooLong = most_characters < length text
-Faulty text (Row line) = (length text ≤ most_characters) × IsWrong text line
-Faulty text (DuplicateRow line) = (length text ≤ most_characters) × IsRepeated text line
-
--- what is told is the text's first fault, unless memory ran out
-abbrev pub Refuses : List ℕ → CertFault → Type 0
-Refuses text OutOfMemory = Unit {0}
-Refuses text TooLong = Faulty text TooLong
-Refuses text (Row line) = Faulty text (Row line)
-Refuses text (DuplicateRow line) = Faulty text (DuplicateRow line)
 
 -- the fault is told, or memory ran out
 abbrev pub Tells : {X : Type 0} → CertFault → Result X CertFault → Type 0

@@ -1,4 +1,3 @@
-pub mod Faults
 pub mod Rows
 pub mod Sayable
 pub mod Printed

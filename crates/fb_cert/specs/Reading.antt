@@ -7,8 +7,8 @@ use Rattle.fb_model.specs.Spelling.{is_digit, is_start, upper}
 use Rattle.fb_model.specs.CertificateText.{TextRow, repeats, range, charge, weight, depth, far, far_state, channel, words, begins_cert, most_steps, most_places, most_repeats, most_channel, most_lint, most_characters}
 use Rattle.fb_model.specs.Spans.{Span, span}
 use Rattle.fb_cert.specs.declared.certificate.Amount.{Amount}
-use Rattle.fb_cert.specs.declared.fault.CertFault.{CertFault}
-use Rattle.fb_cert.specs.declared.fault.CertFault.TheVariants.{TooLong, Row, DuplicateRow}
+use Rattle.fb_faults.specs.declared.certificate.CertFault.{CertFault}
+use Rattle.fb_faults.specs.declared.certificate.CertFault.TheVariants.{TooLong, Row, DuplicateRow}
 use Rattle.fb_cert.specs.Views.{Rows, no_rows, amount, has_row, with_row}
 
 -- ---- numbers and paths

@@ -3,7 +3,6 @@
 #![tactic(auto)]
 
 mod certificate;
-mod fault;
 mod kind;
 mod law;
 mod lists;
@@ -13,7 +12,6 @@ mod row;
 mod sayable;
 
 pub use certificate::{Amount, Certificate};
-pub use fault::{CertFault, OutOfMemory};
 pub use law::{printed_spells, spelled_once};
 pub use printing::print_cert;
 pub use reading::parse_cert;

@@ -6,7 +6,7 @@ ghost use Rattle.fb_cert.specs.Views.{rows_of, certificate_of, text_row_of, row_
 ghost use Rattle.fb_cert.specs.Printed.{row_line, entries_of, printed};
 
 use crate::certificate::Certificate;
-use crate::fault::OutOfMemory;
+use fb_faults::OutOfMemory;
 use crate::kind::Kind;
 use crate::law::printed_spells;
 use crate::row::Row;

@@ -8,12 +8,13 @@ ghost use Rattle.fb_cert.specs.Views.{rows_in, book_of, no_rows, texts, certific
 ghost use Rattle.fb_cert.specs.Progress.{read_of};
 ghost use Rattle.fb_cert.specs.Reading.{read, row_at, words_at, lines_at, whole, text_at};
 ghost use Rattle.fb_cert.specs.Sayable.{AreSayable};
-ghost use Rattle.fb_cert.specs.declared.fault.CertFault.{CertFault};
-ghost use Rattle.fb_cert.specs.declared.fault.CertFault.TheVariants.{TooLong};
-ghost use Rattle.fb_cert.specs.Answers.{Gives, Makes, Finds, Faulty, Refuses, Tells};
+ghost use Rattle.fb_faults.specs.declared.certificate.CertFault.{CertFault};
+ghost use Rattle.fb_faults.specs.declared.certificate.CertFault.TheVariants.{TooLong};
+ghost use Rattle.fb_cert.specs.Answers.{Gives, Makes, Finds, Tells};
+ghost use Rattle.fb_model.specs.RefusedCertificates.{Faulty, Refuses};
 
 use crate::certificate::Certificate;
-use crate::fault::CertFault;
+use fb_faults::CertFault;
 use crate::lists::Lists;
 use crate::row::{begins_cert, is_head, read_row};
 use std::alloc::{AllocError, Global};

@@ -15,10 +15,12 @@ use Rattle.fb_flat.specs.declared.flat.FlatResource.{FlatResource}
 use Rattle.fb_flat.specs.declared.flat.FlatDevice.{FlatDevice}
 use Rattle.fb_flat.specs.Tables.{AreLeaves, AreResources, AreDevices}
 use Rattle.fb_check_columns.specs.declared.column.Column.{Column}
-use Rattle.fb_check_columns.specs.declared.fault.Shortfall.{Shortfall}
+use Rattle.fb_faults.specs.declared.shortfall.Shortfall.{Shortfall}
 use Rattle.fb_check_columns.specs.Columns.{column_of}
 use Rattle.fb_model_texts.specs.Small.{AreSmall}
-use Rattle.fb_check_columns.specs.Fitting.{Some, IsLeafFault, IsKnownLeaf, IsUnpaid, AllPay, AreKnown}
+use Rattle.fb_check_columns.specs.Fitting.{IsKnownLeaf, AllPay, AreKnown}
+use Rattle.fb_model.specs.Misfits.{IsLeafFault, IsUnpaid}
+use Rattle.fb_model.specs.Misfits.{OneOf}
 use Rattle.fb_check_columns.specs.Tables.{LeafPays, LeafFails, ResourcePays, ResourceFails, DevicePays, DeviceFails}
 use Rattle.fb_check_columns.proofs.Lists.{some_of, some_left, some_right}
 
@@ -54,15 +56,15 @@ all_pay column cert small fs s (Err e) p a i = tt
 
 -- ---- what fails
 
-leaves_fail : (column : Column) (cert : Certificate) (small : AreSmall (certificate_of cert)) (f : Shortfall) (ls : List Leaf) (bs : List wires.Leaf) → Some (LeafFails column cert f) ls → AreLeaves ls bs → AllByRecursion (IsKnownLeaf (certificate_of cert).ranges) bs
-    → Some (λ (b : wires.Leaf). IsLeafFault (column_of column (certificate_of cert)) (certificate_of cert).ranges b f) bs
+leaves_fail : (column : Column) (cert : Certificate) (small : AreSmall (certificate_of cert)) (f : Shortfall) (ls : List Leaf) (bs : List wires.Leaf) → OneOf (LeafFails column cert f) ls → AreLeaves ls bs → AllByRecursion (IsKnownLeaf (certificate_of cert).ranges) bs
+    → OneOf (λ (b : wires.Leaf). IsLeafFault (column_of column (certificate_of cert)) (certificate_of cert).ranges b f) bs
 leaves_fail column cert small f [] bs s a i = absurd s
 leaves_fail column cert small f (l ∷ ls) [] s a i = absurd a
 leaves_fail column cert small f (l ∷ ls) (b ∷ bs) (inl p) a i = inl (p b small a.0 i.0)
 leaves_fail column cert small f (l ∷ ls) (b ∷ bs) (inr s) a i = inr (leaves_fail column cert small f ls bs s a.1 i.1)
 
-resources_fail : (column : Column) (cert : Certificate) (small : AreSmall (certificate_of cert)) (f : Shortfall) (n : ℕ) (path : Path) (fs : List FlatResource) (rs : List system.Resource) → Some (ResourceFails column cert f) fs → AreResources n path fs rs → AllByRecursion (IsKnownLeaf (certificate_of cert).ranges) (leaves_from n path rs)
-    → Some (λ (b : wires.Leaf). IsLeafFault (column_of column (certificate_of cert)) (certificate_of cert).ranges b f) (leaves_from n path rs)
+resources_fail : (column : Column) (cert : Certificate) (small : AreSmall (certificate_of cert)) (f : Shortfall) (n : ℕ) (path : Path) (fs : List FlatResource) (rs : List system.Resource) → OneOf (ResourceFails column cert f) fs → AreResources n path fs rs → AllByRecursion (IsKnownLeaf (certificate_of cert).ranges) (leaves_from n path rs)
+    → OneOf (λ (b : wires.Leaf). IsLeafFault (column_of column (certificate_of cert)) (certificate_of cert).ranges b f) (leaves_from n path rs)
 resources_fail column cert small f n path [] rs s a i = absurd s
 resources_fail column cert small f n path (x ∷ fs) [] s a i = absurd a
 resources_fail column cert small f n path (x ∷ fs) (r ∷ rs) (inl p) a i =
@@ -71,8 +73,8 @@ resources_fail column cert small f n path (x ∷ fs) (r ∷ rs) (inl p) a i =
 resources_fail column cert small f n path (x ∷ fs) (r ∷ rs) (inr s) a i =
     some_right _ (resource_leaves n path r) (leaves_from (n + 1) path rs) (resources_fail column cert small f (n + 1) path fs rs s a.1 (all_right (IsKnownLeaf (certificate_of cert).ranges) (resource_leaves n path r) (leaves_from (n + 1) path rs) i))
 
-devices_fail : (column : Column) (cert : Certificate) (small : AreSmall (certificate_of cert)) (f : Shortfall) (fs : List FlatDevice) (ds : List system.Device) → Some (DeviceFails column cert f) fs → AreDevices fs ds → AllByRecursion (λ (d : system.Device). AllByRecursion (IsKnownLeaf (certificate_of cert).ranges) (leaves d)) ds
-    → Some (λ (d : system.Device). Some (λ (b : wires.Leaf). IsLeafFault (column_of column (certificate_of cert)) (certificate_of cert).ranges b f) (leaves d)) ds
+devices_fail : (column : Column) (cert : Certificate) (small : AreSmall (certificate_of cert)) (f : Shortfall) (fs : List FlatDevice) (ds : List system.Device) → OneOf (DeviceFails column cert f) fs → AreDevices fs ds → AllByRecursion (λ (d : system.Device). AllByRecursion (IsKnownLeaf (certificate_of cert).ranges) (leaves d)) ds
+    → OneOf (λ (d : system.Device). OneOf (λ (b : wires.Leaf). IsLeafFault (column_of column (certificate_of cert)) (certificate_of cert).ranges b f) (leaves d)) ds
 devices_fail column cert small f [] ds s a i = absurd s
 devices_fail column cert small f (x ∷ fs) [] s a i = absurd a
 devices_fail column cert small f (x ∷ fs) (d ∷ ds) (inl p) a i = inl (resources_fail column cert small f 0 (d.name ∷ []) x.resources.items d.resources (some_of (ResourceFails column cert f) x.resources.items p) a.0.resources i.0)

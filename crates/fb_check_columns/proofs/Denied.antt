@@ -9,9 +9,11 @@ use Rattle.fb_model.specs.Certificates as book
 use Rattle.fb_model.specs.Certificates.{KindWeighs, InputFits, EventFits, event_names, ColumnFits}
 use Rattle.fb_model.specs.Services.{service_events}
 use Rattle.fb_model.proofs.Lists.{at_listed}
-use Rattle.fb_check_columns.specs.declared.fault.Shortfall.{Shortfall}
-use Rattle.fb_check_columns.specs.declared.fault.Shortfall.TheVariants.{OutOfMemory, Charge, Weight, Channel}
-use Rattle.fb_check_columns.specs.Fitting.{Some, IsLeafFault, ChargeFails, WeightFails, IsUnpaid, AllPay, IsShortChannel, ChannelsPay}
+use Rattle.fb_faults.specs.declared.shortfall.Shortfall.{Shortfall}
+use Rattle.fb_faults.specs.declared.shortfall.Shortfall.TheVariants.{OutOfMemory, Charge, Weight, Channel}
+use Rattle.fb_check_columns.specs.Fitting.{AllPay}
+use Rattle.fb_model.specs.Misfits.{IsLeafFault, ChargeFails, WeightFails, IsUnpaid, IsShortChannel, ChannelsPay}
+use Rattle.fb_model.specs.Misfits.{OneOf}
 use Rattle.fb_check_columns.proofs.Lists.{some_of, none_lacks}
 
 leaf_denied : (col : book.Column) (ranges : List Range) (leaf : wires.Leaf) (f : Shortfall) → (f ≡ OutOfMemory → ⊥) → IsLeafFault col ranges leaf f → KindWeighs col (rows ranges leaf.path leaf.kind) leaf.targets leaf.path leaf.kind → ⊥
@@ -29,7 +31,7 @@ leaf_denied col ranges leaf (Weight path) n h w = by (rows ranges leaf.path leaf
 
 unpaid_denied : (col : book.Column) (ranges : List Range) (s : system.System) (f : Shortfall) → (f ≡ OutOfMemory → ⊥) → IsUnpaid col ranges s f → AllPay col ranges s → ⊥
 unpaid_denied col ranges s f n u fits =
-    none_lacks (λ (d : system.Device). ColumnFits col ranges (leaves d)) (λ (d : system.Device). Some (λ (leaf : wires.Leaf). IsLeafFault col ranges leaf f) (leaves d)) s.devices
+    none_lacks (λ (d : system.Device). ColumnFits col ranges (leaves d)) (λ (d : system.Device). OneOf (λ (leaf : wires.Leaf). IsLeafFault col ranges leaf f) (leaves d)) s.devices
     (λ d p q. none_lacks (λ (leaf : wires.Leaf). KindWeighs col (rows ranges leaf.path leaf.kind) leaf.targets leaf.path leaf.kind) (λ (leaf : wires.Leaf). IsLeafFault col ranges leaf f) (leaves d)
     (λ leaf w h. leaf_denied col ranges leaf f n h w) p q) fits u
 

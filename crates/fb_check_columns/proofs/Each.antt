@@ -4,8 +4,8 @@ use Rattle.std.specs.List.{AllByRecursion, Any}
 use Rattle.std.proofs.lemmas.List.{take_more}
 use Rattle.fb_model.specs.Names.{Name}
 use Rattle.fb_model.proofs.Lists.{all_append}
-use Rattle.fb_check_columns.specs.declared.fault.Shortfall.{Shortfall}
-use Rattle.fb_check_columns.specs.declared.fault.Shortfall.TheVariants.{OutOfMemory, Charge, Weight, Channel}
+use Rattle.fb_faults.specs.declared.shortfall.Shortfall.{Shortfall}
+use Rattle.fb_faults.specs.declared.shortfall.Shortfall.TheVariants.{OutOfMemory, Charge, Weight, Channel}
 use Rattle.fb_check_columns.specs.Paying.{IsCharge, IsWeight, Names}
 use Rattle.fb_check_columns.proofs.Lists.{image_at}
 

@@ -23,10 +23,10 @@ use Rattle.fb_check_ranges.specs.Places.{leaves_in}
 use Rattle.fb_check_ranges.proofs.Placing.{device_leaves}
 use Rattle.fb_check_columns.specs.declared.channel.Heard.{Heard}
 use Rattle.fb_check_columns.specs.declared.column.Column.TheVariants.{Far}
-use Rattle.fb_check_columns.specs.declared.fault.Shortfall.{Shortfall}
-use Rattle.fb_check_columns.specs.declared.fault.Shortfall.TheVariants.{OutOfMemory, Charge, Weight, Channel}
+use Rattle.fb_faults.specs.declared.shortfall.Shortfall.{Shortfall}
+use Rattle.fb_faults.specs.declared.shortfall.Shortfall.TheVariants.{OutOfMemory, Charge, Weight, Channel}
 use Rattle.fb_model_texts.specs.Small.{AreSmall}
-use Rattle.fb_check_columns.specs.Fitting.{ChannelsPay, IsShortChannel}
+use Rattle.fb_model.specs.Misfits.{ChannelsPay, IsShortChannel}
 use Rattle.fb_check_columns.specs.Sums.{IsSum}
 use Rattle.fb_check_columns.specs.Channels.{Cost, heard_by, heard_at, heard_under, cost_of, cost_in, AreCosts, ChannelPays, IsOwingChannel}
 use Rattle.fb_check_columns.proofs.Amounts.{weight_is}

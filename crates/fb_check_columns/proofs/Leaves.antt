@@ -27,13 +27,14 @@ use Rattle.fb_flat.specs.Tables.{target_place, output_names, targets_of}
 use Rattle.fb_flat.specs.Sites.{dotted}
 use Rattle.fb_flat.proofs.Dotted.{names_dotted}
 use Rattle.fb_check_columns.specs.declared.column.Column.{Column}
-use Rattle.fb_check_columns.specs.declared.fault.Shortfall.{Shortfall}
-use Rattle.fb_check_columns.specs.declared.fault.Shortfall.TheVariants.{OutOfMemory, Charge, Weight, Channel}
+use Rattle.fb_faults.specs.declared.shortfall.Shortfall.{Shortfall}
+use Rattle.fb_faults.specs.declared.shortfall.Shortfall.TheVariants.{OutOfMemory, Charge, Weight, Channel}
 use Rattle.fb_check_columns.specs.Columns.{unit_of, column_of}
 use Rattle.fb_check_columns.specs.Reckoning.{load_of, load_at, value_at, table_names, Costs}
 use Rattle.fb_check_columns.specs.Paying.{IsWeight, outputs_in, ChartPays, IsOwing, DispatchPays, OneOwes}
 use Rattle.fb_model_texts.specs.Small.{AreSmall}
-use Rattle.fb_check_columns.specs.Fitting.{ChargeFails, WeightFails, IsKnownLeaf, IsLeafFault}
+use Rattle.fb_check_columns.specs.Fitting.{IsKnownLeaf}
+use Rattle.fb_model.specs.Misfits.{ChargeFails, WeightFails, IsLeafFault}
 use Rattle.fb_check_columns.proofs.Lists.{each_in}
 use Rattle.fb_check_columns.proofs.Amounts.{charge_is, weight_is, unit_is, load_is}
 use Rattle.fb_check_columns.proofs.Known.{IsTabled, tabled, typed_names_are}

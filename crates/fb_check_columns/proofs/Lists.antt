@@ -7,7 +7,7 @@ use Rattle.std.proofs.lemmas.Slice.Eq.{bytes_eq-Decides}
 use Rattle.fb_lists.proofs.Lists.{default_free, there}
 use Rattle.fb_model.specs.Names.{Name, is_in}
 use Rattle.fb_model.proofs.Lists.{same_name}
-use Rattle.fb_check_columns.specs.Fitting.{Some}
+use Rattle.fb_model.specs.Misfits.{OneOf}
 
 -- ---- names
 
@@ -61,22 +61,22 @@ in_images f xs i x l =
 tail_of : {X : Type 0} (P : X → Type 0) (y : X) (xs : List X) (k : ℕ) (x : X) → suc k < length (y ∷ xs) → get_or (y ∷ xs) (suc k) x ≡ x → P x → Any P xs
 tail_of P y xs k x l e p = (k, x, omega (arith, l), e, p)
 
-pub some_of : {X : Type 0} (P : X → Type 0) (xs : List X) → Any P xs → Some P xs
+pub some_of : {X : Type 0} (P : X → Type 0) (xs : List X) → Any P xs → OneOf P xs
 some_of P [] a = absurd (omega (arith, a.2))
 some_of P (y ∷ xs) (zero, x, l, e, p) = inl (subst P (sym e) p)
 some_of P (y ∷ xs) (suc k, x, l, e, p) = inr (some_of P xs (tail_of P y xs k x l e p))
 
-pub some_left : {X : Type 0} (P : X → Type 0) (xs ys : List X) → Some P xs → Some P (xs ++ ys)
+pub some_left : {X : Type 0} (P : X → Type 0) (xs ys : List X) → OneOf P xs → OneOf P (xs ++ ys)
 some_left P [] ys s = absurd s
 some_left P (x ∷ xs) ys (inl p) = inl p
 some_left P (x ∷ xs) ys (inr s) = inr (some_left P xs ys s)
 
-pub some_right : {X : Type 0} (P : X → Type 0) (xs ys : List X) → Some P ys → Some P (xs ++ ys)
+pub some_right : {X : Type 0} (P : X → Type 0) (xs ys : List X) → OneOf P ys → OneOf P (xs ++ ys)
 some_right P [] ys s = s
 some_right P (x ∷ xs) ys s = inr (some_right P xs ys s)
 
 -- what all have, none lacks
-pub none_lacks : {X : Type 0} (P Q : X → Type 0) (xs : List X) → ((x : X) → P x → Q x → ⊥) → AllByRecursion P xs → Some Q xs → ⊥
+pub none_lacks : {X : Type 0} (P Q : X → Type 0) (xs : List X) → ((x : X) → P x → Q x → ⊥) → AllByRecursion P xs → OneOf Q xs → ⊥
 none_lacks P Q [] f a s = s
 none_lacks P Q (x ∷ xs) f a (inl q) = f x a.0 q
 none_lacks P Q (x ∷ xs) f a (inr s) = none_lacks P Q xs f a.1 s

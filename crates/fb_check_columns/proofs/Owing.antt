@@ -6,8 +6,8 @@ use Rattle.fb_model.specs.Names.{Name}
 use Rattle.fb_cert.specs.declared.certificate.Certificate as cert
 use Rattle.fb_types_blocks.specs.declared.typed.Block.{Block}
 use Rattle.fb_check_columns.specs.declared.column.Column.{Column}
-use Rattle.fb_check_columns.specs.declared.fault.Shortfall.{Shortfall}
-use Rattle.fb_check_columns.specs.declared.fault.Shortfall.TheVariants.{OutOfMemory, Charge, Weight, Channel}
+use Rattle.fb_faults.specs.declared.shortfall.Shortfall.{Shortfall}
+use Rattle.fb_faults.specs.declared.shortfall.Shortfall.TheVariants.{OutOfMemory, Charge, Weight, Channel}
 use Rattle.fb_check_columns.specs.Reckoning.{Costs}
 use Rattle.fb_check_columns.specs.Paying.{IsCharge, IsWeight, NamesOne, StatePays, SourcePays, InputPays, EventPays, event_named, inputs_in, costs_in, most_in, ChartPays, StateOwes, EventOwes, IsOwing}
 use Rattle.fb_check_columns.proofs.Each.{charge_weaker, weight_weaker}

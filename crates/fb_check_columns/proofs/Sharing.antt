@@ -10,7 +10,7 @@ use Rattle.fb_model.specs.Ranges.{IsClearAlgorithm}
 use Rattle.st_types.specs.declared.whole.Algo.{Algo}
 use Rattle.fb_check_columns.specs.declared.column.Column.{Column}
 use Rattle.fb_check_columns.specs.declared.column.Column.TheVariants.{Steps, Far}
-use Rattle.fb_check_columns.specs.declared.fault.Shortfall.{Shortfall}
+use Rattle.fb_faults.specs.declared.shortfall.Shortfall.{Shortfall}
 use Rattle.fb_check_columns.specs.Columns.{unit_of}
 use Rattle.fb_check_columns.specs.Reckoning.{AreSums}
 use Rattle.fb_check_columns.specs.Sharing.{HasCosts}

@@ -27,7 +27,7 @@ use Rattle.fb_check_columns.specs.declared.column.Column.{Column}
 use Rattle.fb_check_columns.specs.Columns.{unit_of, crossing_need}
 use Rattle.fb_check_columns.specs.Reckoning.{weight_of, charge_of, value_at, table_names, Costs, NamedActions, acted, own_of, cost_at}
 use Rattle.fb_check_columns.specs.Paying.{StatePays, SourcePays, Pays, InputPays, EventPays, outputs_in, inputs_in, costs_in, most_in, ChartPays, StateOwes, EventOwes}
-use Rattle.fb_check_columns.specs.Fitting.{ChargeFails, WeightFails}
+use Rattle.fb_model.specs.Misfits.{ChargeFails, WeightFails}
 use Rattle.fb_lists.proofs.Lists.{all_image, all_source, all_here, any_image}
 use Rattle.fb_check_columns.proofs.Lists.{is_text, bytes_turned, in_at, each_in, all_image_at}
 use Rattle.fb_check_columns.proofs.Known.{state_of, event_names_are, states_in, IsEmitting, IsCrossing, IsTabled}

@@ -14,8 +14,8 @@ use Rattle.fb_flat.specs.Leaves.{kind_of}
 use Rattle.fb_check_ranges.specs.Places.{leaves_in}
 use Rattle.fb_check_columns.specs.declared.channel.Heard.{Heard}
 use Rattle.fb_check_columns.specs.declared.column.Column.TheVariants.{Far}
-use Rattle.fb_check_columns.specs.declared.fault.Shortfall.{Shortfall}
-use Rattle.fb_check_columns.specs.declared.fault.Shortfall.TheVariants.{OutOfMemory, Charge, Weight, Channel}
+use Rattle.fb_faults.specs.declared.shortfall.Shortfall.{Shortfall}
+use Rattle.fb_faults.specs.declared.shortfall.Shortfall.TheVariants.{OutOfMemory, Charge, Weight, Channel}
 use Rattle.fb_check_columns.specs.Reckoning.{weight_of}
 use Rattle.fb_check_columns.specs.Sums.{IsSum}
 

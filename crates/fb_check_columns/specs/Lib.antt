@@ -6,5 +6,4 @@ pub mod Paying
 pub mod Channels
 pub mod Fitting
 pub mod Tables
-pub mod Codes
 pub mod Read

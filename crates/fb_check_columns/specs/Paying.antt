@@ -12,8 +12,8 @@ use Rattle.fb_flat.specs.Sites.{dotted}
 use Rattle.fb_types_blocks.specs.declared.typed.Transition.{Transition}
 use Rattle.fb_types_blocks.specs.declared.typed.Block.{Block}
 use Rattle.fb_check_columns.specs.declared.column.Column.{Column}
-use Rattle.fb_check_columns.specs.declared.fault.Shortfall.{Shortfall}
-use Rattle.fb_check_columns.specs.declared.fault.Shortfall.TheVariants.{OutOfMemory, Charge, Weight, Channel}
+use Rattle.fb_faults.specs.declared.shortfall.Shortfall.{Shortfall}
+use Rattle.fb_faults.specs.declared.shortfall.Shortfall.TheVariants.{OutOfMemory, Charge, Weight, Channel}
 use Rattle.fb_check_columns.specs.Columns.{unit_of, column_of, crossing_need}
 use Rattle.fb_check_columns.specs.Reckoning.{weight_of, charge_of, load_at, table_names, Costs, NamedActions, own_of, cost_at, most_free}
 

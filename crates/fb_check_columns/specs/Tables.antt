@@ -10,10 +10,11 @@ use Rattle.fb_flat.specs.declared.flat.FlatResource.{FlatResource}
 use Rattle.fb_flat.specs.declared.flat.FlatDevice.{FlatDevice}
 use Rattle.fb_flat.specs.Tables.{IsLeaf}
 use Rattle.fb_check_columns.specs.declared.column.Column.{Column}
-use Rattle.fb_check_columns.specs.declared.fault.Shortfall.{Shortfall}
+use Rattle.fb_faults.specs.declared.shortfall.Shortfall.{Shortfall}
 use Rattle.fb_check_columns.specs.Columns.{column_of}
 use Rattle.fb_model_texts.specs.Small.{AreSmall}
-use Rattle.fb_check_columns.specs.Fitting.{IsKnownLeaf, IsLeafFault}
+use Rattle.fb_check_columns.specs.Fitting.{IsKnownLeaf}
+use Rattle.fb_model.specs.Misfits.{IsLeafFault}
 
 -- the rows of a leaf of the tables pay in a column, whichever leaf of the book it is
 abbrev pub LeafPays : Column → Certificate → Leaf → Type 0

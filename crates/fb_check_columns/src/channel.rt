@@ -13,13 +13,13 @@ ghost use Rattle.fb_flat.specs.Tables.{AreDevices};
 ghost use Rattle.fb_check_ranges.specs.Places.{leaves_in};
 ghost use Rattle.fb_check_columns.specs.declared.column.Column.TheVariants.{Far};
 ghost use Rattle.fb_check_columns.specs.Channels.{Cost, AreCosts, heard_by, heard_at, heard_under, cost_of, cost_in, ChannelPays, IsOwingChannel};
-ghost use Rattle.fb_check_columns.specs.Fitting.{ChannelsPay, IsShortChannel};
+ghost use Rattle.fb_model.specs.Misfits.{ChannelsPay, IsShortChannel};
 ghost use Rattle.fb_check_columns.specs.Paying.{IsMemory};
 ghost use Rattle.fb_check_columns.specs.Reckoning.{weight_of};
 ghost use Rattle.fb_check_columns.specs.Sums.{IsSum};
 
 use crate::column::{Column, is_within, plus};
-use crate::fault::Shortfall;
+use fb_faults::Shortfall;
 use crate::weights::weight;
 use fb_cert::Certificate;
 use fb_check_ranges::leaves_of;

@@ -10,7 +10,7 @@ ghost use Rattle.fb_check_columns.specs.Paying.{IsMemory, IsCharge, IsWeight, Na
 
 use crate::column::{Column, plus};
 use crate::cost::{Prices, acted, at};
-use crate::fault::Shortfall;
+use fb_faults::Shortfall;
 use crate::rows::{Rows, charges, weights};
 use crate::weights::{charged, weighed};
 use fb_cert::Certificate;

@@ -13,7 +13,7 @@ ghost use Rattle.fb_check_columns.specs.Reckoning.{Costs, AreSums, ArePrices, wo
 ghost use Rattle.fb_check_columns.specs.Sums.{IsSum};
 
 use crate::column::plus;
-use crate::fault::Shortfall;
+use fb_faults::Shortfall;
 use fb_ranges::{Ranges, copied, max_steps};
 use fb_types_blocks::{Action, Block};
 use indexmap::IndexMap;

@@ -4,9 +4,10 @@ ghost use Rattle.std.specs.Prelude.{◌≡◌, ℕ, List};
 ghost use Rattle.fb_model.specs.System.{System};
 ghost use Rattle.fb_model.specs.Ranges.{Range};
 ghost use Rattle.fb_model.specs.Certificates.{Certificate, Column};
-ghost use Rattle.fb_check_columns.specs.declared.fault.Shortfall.{Shortfall};
-ghost use Rattle.fb_check_columns.specs.declared.fault.Shortfall.TheVariants.{OutOfMemory};
-ghost use Rattle.fb_check_columns.specs.Fitting.{IsUnpaid, AllPay, IsShortChannel, ChannelsPay};
+ghost use Rattle.fb_faults.specs.declared.shortfall.Shortfall.{Shortfall};
+ghost use Rattle.fb_faults.specs.declared.shortfall.Shortfall.TheVariants.{OutOfMemory};
+ghost use Rattle.fb_check_columns.specs.Fitting.{AllPay};
+ghost use Rattle.fb_model.specs.Misfits.{IsUnpaid, IsShortChannel, ChannelsPay};
 
 /// Where a row does not pay, the rows of the system do not all pay; so no refusal is told of a system whose rows do.
 pub fn refusals_deny()

@@ -9,14 +9,15 @@ ghost use Rattle.fb_cert.specs.Views.{certificate_of};
 ghost use Rattle.fb_flat.specs.Tables.{IsLeaf};
 ghost use Rattle.fb_check_columns.specs.Columns.{column_of};
 ghost use Rattle.fb_model_texts.specs.Small.{AreSmall};
-ghost use Rattle.fb_check_columns.specs.Fitting.{IsKnownLeaf, IsLeafFault};
+ghost use Rattle.fb_check_columns.specs.Fitting.{IsKnownLeaf};
+ghost use Rattle.fb_model.specs.Misfits.{IsLeafFault};
 ghost use Rattle.fb_check_columns.specs.Sharing.{IsCosted};
 
 use crate::chart::chart_pays;
 use crate::column::Column;
 use crate::cost::Prices;
 use crate::costed::{Costed, algorithm_costs};
-use crate::fault::Shortfall;
+use fb_faults::Shortfall;
 use crate::service::service_pays;
 use crate::weights::loads;
 use fb_cert::Certificate;

@@ -7,7 +7,6 @@ mod chart;
 mod column;
 mod cost;
 mod costed;
-mod fault;
 mod laws;
 mod leaf;
 mod pays;
@@ -17,6 +16,5 @@ mod weights;
 
 pub use channel::channels_pay;
 pub use column::Column;
-pub use fault::Shortfall;
 pub use laws::{channels_deny, refusals_deny};
 pub use pays::column_pays;

@@ -8,11 +8,12 @@ ghost use Rattle.fb_flat.specs.Tables.{AreDevices};
 ghost use Rattle.fb_check_columns.specs.Columns.{column_of};
 ghost use Rattle.fb_check_columns.specs.Sharing.{IsCosted};
 ghost use Rattle.fb_check_columns.specs.Tables.{LeafPays, LeafFails, ResourcePays, ResourceFails, DevicePays, DeviceFails};
-ghost use Rattle.fb_check_columns.specs.Fitting.{IsUnpaid, AllPay, AreKnown};
+ghost use Rattle.fb_check_columns.specs.Fitting.{AllPay, AreKnown};
+ghost use Rattle.fb_model.specs.Misfits.{IsUnpaid};
 
 use crate::column::Column;
 use crate::costed::Costed;
-use crate::fault::Shortfall;
+use fb_faults::Shortfall;
 use crate::leaf::leaf_pays;
 use fb_cert::Certificate;
 use fb_flat::{Flat, FlatDevice, FlatResource, Leaf};

@@ -4,13 +4,14 @@ use Rattle.std.specs.Prelude.{MatchResult, IsTrue, OnOk, IfErr}
 use Rattle.std.specs.List.{AllByRecursion}
 use Rattle.fb_model.specs.Names.{Name}
 use Rattle.fb_flat.specs.Sites.{dotted}
-use Rattle.fb_check_ranges.specs.declared.fault.Unclear.{Unclear}
-use Rattle.fb_check_ranges.specs.declared.fault.Unclear.TheVariants as u
+use Rattle.fb_faults.specs.declared.unclear.Unclear.{Unclear}
+use Rattle.fb_faults.specs.declared.unclear.Unclear.TheVariants as u
 use Rattle.fb_model.specs.Wires as wires
 use Rattle.fb_cert.specs.declared.certificate.Certificate.{Certificate}
 use Rattle.fb_flat.specs.declared.flat.Leaf.{Leaf}
 use Rattle.fb_types_blocks.specs.declared.typed.Block.{Block}
-use Rattle.fb_check_ranges.specs.Reasons.{Reason, Starts, Links, Keeps, Divides, Refuses, Blames, OneFails}
+use Rattle.fb_check_ranges.specs.Reasons.{Blames, OneFails}
+use Rattle.fb_model.specs.Misfits.{Reason, Starts, Links, Keeps, Divides, Refuses}
 use Rattle.fb_check_ranges.specs.Beginning.{NamedVariable, shown, LinkLies}
 use Rattle.fb_check_ranges.specs.Clearing.{VariablesBegin, RunsClear, RunFails, ChartLies, BlockFails}
 

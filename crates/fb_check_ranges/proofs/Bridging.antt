@@ -30,11 +30,15 @@ use Rattle.fb_types_blocks.specs.declared.typed.Block.{Block}
 use Rattle.fb_types_blocks.specs.Views.{declared_of, transition_of, block_of}
 use Rattle.st_types.specs.CommandViews.{commands_of}
 use Rattle.fb_check_ranges.specs.Rows.{row_for}
-use Rattle.fb_check_ranges.specs.Reasons.{Reason, Starts, Links, Keeps, Divides, OneFails}
-use Rattle.fb_check_ranges.specs.Beginning.{NamedVariable, entry_name, shown, Begins, InputBegins, OtherBegins, LinkLies}
+use Rattle.fb_check_ranges.specs.Reasons.{OneFails}
+use Rattle.fb_model.specs.Misfits.{Reason, Starts, Links, Keeps, Divides}
+use Rattle.fb_check_ranges.specs.Beginning.{NamedVariable, entry_name, shown, InputBegins, OtherBegins, LinkLies}
+use Rattle.fb_model.specs.Misfits.{Begins}
 use Rattle.fb_check_ranges.specs.Places.{SourceLies}
-use Rattle.fb_check_ranges.specs.Clearing.{Procedure, procedure_name, procedure_text, guard_in, rows_of_block, AlgorithmFails, GuardFails, InputFails, OtherFails, LinkFails, ChartLies, BlockFails}
-use Rattle.fb_check_ranges.specs.Fitting.{IsKnownLeaf, ChartFails}
+use Rattle.fb_check_ranges.specs.Clearing.{Procedure, procedure_name, procedure_text, guard_in, rows_of_block, AlgorithmFails, InputFails, OtherFails, LinkFails, ChartLies, BlockFails}
+use Rattle.fb_model.specs.Misfits.{GuardFails}
+use Rattle.fb_check_ranges.specs.Fitting.{IsKnownLeaf}
+use Rattle.fb_model.specs.Misfits.{ChartFails}
 use Rattle.fb_check_ranges.specs.Tables.{AreKnownLeaves}
 use Rattle.fb_lists.proofs.Lists.{any_image, all_source}
 use Rattle.fb_check_ranges.proofs.Lists.{any_with, all_image_where, all_both, all_parts, same}

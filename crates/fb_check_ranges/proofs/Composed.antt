@@ -18,10 +18,12 @@ use Rattle.fb_flat.specs.Sources.{written_inputs}
 use Rattle.fb_flat.specs.Tables.{source_at, IsLeaf, AreLeaves, IsDevice, AreDevices}
 use Rattle.fb_flat.specs.Sites.{dotted}
 use Rattle.fb_flat.proofs.Dotted.{names_dotted}
-use Rattle.fb_check_ranges.specs.declared.fault.Unclear.{Unclear}
-use Rattle.fb_check_ranges.specs.Reasons.{Refuses, Blames}
+use Rattle.fb_faults.specs.declared.unclear.Unclear.{Unclear}
+use Rattle.fb_check_ranges.specs.Reasons.{Blames}
+use Rattle.fb_model.specs.Misfits.{Refuses}
 use Rattle.fb_check_ranges.specs.Clearing.{ChartLies, BlockFails}
-use Rattle.fb_check_ranges.specs.Fitting.{IsKnownLeaf, AreKnown, AllClear, KindFails, LeafFails, OneLeafFails, IsUnclear}
+use Rattle.fb_check_ranges.specs.Fitting.{IsKnownLeaf, AreKnown}
+use Rattle.fb_model.specs.Misfits.{AllClear, KindFails, LeafFails, OneLeafFails, IsUnclear}
 use Rattle.fb_check_ranges.specs.Tables.{AreKnownLeaves, LeafPasses, LeafRefused, DevicePasses, DeviceRefused}
 use Rattle.fb_check_ranges.proofs.Blaming.{refuses_weaker}
 use Rattle.fb_check_ranges.proofs.Bridging.{chart_clears, block_says}

@@ -11,12 +11,12 @@ use Rattle.fb_model.specs.Clear.{Spans, Found, Clear, Leaves, Traps, examined, g
 use Rattle.fb_model.specs.Ranges.{Range, rows, row_at, HoldsIn, SourceFits, IsClearGuard, IsClearAlgorithm, ChartClears, LeafClears, KindClears}
 use Rattle.fb_model.proofs.Lists.{all_both, all_append}
 use Rattle.fb_model.proofs.Placed.{all_left, all_right}
-use Rattle.fb_check_ranges.specs.declared.fault.Unclear.{Unclear}
-use Rattle.fb_check_ranges.specs.declared.fault.Unclear.TheVariants as u
-use Rattle.fb_check_ranges.specs.Reasons.{Reason, Starts, Links, Keeps, Divides}
-use Rattle.fb_check_ranges.specs.Beginning.{Begins}
-use Rattle.fb_check_ranges.specs.Clearing.{GuardFails}
-use Rattle.fb_check_ranges.specs.Fitting.{ChartFails, KindFails, LeafFails, IsUnclear, AllClear}
+use Rattle.fb_faults.specs.declared.unclear.Unclear.{Unclear}
+use Rattle.fb_faults.specs.declared.unclear.Unclear.TheVariants as u
+use Rattle.fb_model.specs.Misfits.{Reason, Starts, Links, Keeps, Divides}
+use Rattle.fb_model.specs.Misfits.{Begins}
+use Rattle.fb_model.specs.Misfits.{GuardFails}
+use Rattle.fb_model.specs.Misfits.{ChartFails, KindFails, LeafFails, IsUnclear, AllClear}
 
 -- what is so of all is so of the one at an index
 at_index : {X : Type 0} (P : X → Type 0) (xs : List X) (i : ℕ) (x : X) → AllByRecursion P xs → i < length xs → get_or xs i x ≡ x → P x

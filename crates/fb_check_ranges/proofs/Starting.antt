@@ -14,7 +14,8 @@ use Rattle.fb_model.specs.Shapes.{IsIn}
 use Rattle.fb_words.proofs.Types.{le_is, le_true}
 use Rattle.fb_types_blocks.specs.declared.typed.Variable.{Variable}
 use Rattle.fb_types_blocks.specs.Views.{declared_of}
-use Rattle.fb_check_ranges.specs.Beginning.{IsRange, Begins}
+use Rattle.fb_check_ranges.specs.Beginning.{IsRange}
+use Rattle.fb_model.specs.Misfits.{Begins}
 
 -- a range of one number
 one_both : (n : ℤ) (r : Span) → (within (span n n) r ≡ true) ↔ IsIn r n

@@ -2,7 +2,6 @@
 use Rattle.std.specs.Prelude.{◌≡◌, ◌↔◌, true, List, string_bytes}
 use Rattle.std.specs.declared.string.String.{String}
 use Rattle.std.specs.declared.alloc.Global.{Global}
-use Rattle.fb_words.specs.declared.elem_type.ElemType.{ElemType}
 use Rattle.fb_model.specs.Names.{Name}
 use Rattle.fb_model.specs.Values.{Value}
 use Rattle.fb_model.specs.System as book
@@ -10,7 +9,7 @@ use Rattle.fb_model.specs.System.{start_of}
 use Rattle.fb_model.specs.Store.{first_input}
 use Rattle.fb_model.specs.BlockTyping.{variable_of}
 use Rattle.fb_model.specs.Wires as wires
-use Rattle.fb_model.specs.Spans.{Span, within, whole}
+use Rattle.fb_model.specs.Spans.{Span, within}
 use Rattle.fb_model.specs.Ranges.{HoldsIn}
 use Rattle.fb_cert.specs.declared.certificate.Certificate.{Certificate}
 use Rattle.fb_flat.specs.declared.flat.Leaf.{Leaf}
@@ -18,6 +17,7 @@ use Rattle.fb_types_blocks.specs.declared.typed.Variable.{Variable}
 use Rattle.fb_types_blocks.specs.Views.{declared_of}
 use Rattle.fb_check_ranges.specs.Rows.{row_for}
 use Rattle.fb_check_ranges.specs.Places.{SourceLies}
+use Rattle.fb_model.specs.Misfits.{Begins}
 
 -- a variable of the tables: its name, and what is declared of it
 abbrev pub NamedVariable : Type 0
@@ -33,10 +33,6 @@ shown e = variable_of (declared_of (string_bytes e.0) e.1)
 -- a value lies in a row where this range does
 abbrev pub IsRange : Span → Value → Type 0
 IsRange s value = (r : Span) → (within s r ≡ true) ↔ HoldsIn r value
-
--- a row lies in its type, and holds a value
-abbrev pub Begins : Span → ElemType → Value → Type 0
-Begins r a value = (within r (whole a) ≡ true) × HoldsIn r value
 
 -- so it is of an input, by where it takes its value from
 abbrev pub InputBegins : Certificate → Name → (Name → wires.Source) → book.Variable → Type 0

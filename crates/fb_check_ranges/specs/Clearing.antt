@@ -1,12 +1,12 @@
 -- When the rows of a block are clear, over its tables.
-use Rattle.std.specs.Prelude.{◌≡◌, ◌⊎◌, List, Option, None, Some, string_bytes}
+use Rattle.std.specs.Prelude.{◌≡◌, ◌⊎◌, List, Option, string_bytes}
 use Rattle.std.specs.Option.{option_map}
 use Rattle.std.specs.List.{AllByRecursion}
 use Rattle.std.specs.declared.string.String.{String}
 use Rattle.std.specs.declared.alloc.Global.{Global}
 use Rattle.fb_model.specs.Names.{Name}
 use Rattle.fb_model.specs.Language.{Guard, Algorithm}
-use Rattle.fb_model.specs.Clear.{Spans, Leaves, Traps, examined, guard_range}
+use Rattle.fb_model.specs.Clear.{Spans, Leaves, Traps, examined}
 use Rattle.fb_model.specs.Ranges.{IsClearGuard, IsClearAlgorithm}
 use Rattle.fb_model.specs.Wires as wires
 use Rattle.fb_model.specs.Wires.{Charted}
@@ -19,7 +19,8 @@ use Rattle.st_types.specs.declared.whole.Algo.{Algo}
 use Rattle.st_types.specs.Views.{term_of}
 use Rattle.st_types.specs.CommandViews.{commands_of}
 use Rattle.fb_check_ranges.specs.Rows.{rows_in}
-use Rattle.fb_check_ranges.specs.Reasons.{Reason, Starts, Links, Keeps, Divides, Lacks, OneFails}
+use Rattle.fb_check_ranges.specs.Reasons.{Lacks, OneFails}
+use Rattle.fb_model.specs.Misfits.{Reason, Starts, Links, Keeps, Divides, GuardFails}
 use Rattle.fb_check_ranges.specs.Beginning.{NamedVariable, entry_name, shown, InputBegins, OtherBegins, LinkLies}
 
 -- ---- algorithms and guards
@@ -30,11 +31,6 @@ AlgorithmFails rows a Starts = ⊥
 AlgorithmFails rows a Links = ⊥
 AlgorithmFails rows a Keeps = examined rows a ≡ Leaves
 AlgorithmFails rows a Divides = examined rows a ≡ Traps
-
--- a guard has no range
-abbrev pub GuardFails : Spans → Option Guard → Reason → Type 0
-GuardFails rows None reason = ⊥
-GuardFails rows (Some g) reason = (reason ≡ Divides) × (guard_range rows g ≡ None)
 
 -- an algorithm of the tables: its name, and its statements
 abbrev pub Procedure : Type 0

@@ -6,4 +6,3 @@ pub mod Clearing
 pub mod Examining
 pub mod Fitting
 pub mod Tables
-pub mod Codes

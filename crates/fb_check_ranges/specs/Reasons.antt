@@ -1,28 +1,11 @@
 -- Why rows do not fit, and what a refusal names.
-use Rattle.std.specs.Prelude.{◌≡◌, ℕ, List, Result, MatchResult, string_bytes}
+use Rattle.std.specs.Prelude.{◌≡◌, List, Result, MatchResult}
 use Rattle.std.specs.List.{AllByRecursion, Any}
 use Rattle.fb_model.specs.Names.{Name}
 use Rattle.fb_flat.specs.Sites.{dotted}
-use Rattle.fb_check_ranges.specs.declared.fault.Unclear.{Unclear}
-use Rattle.fb_check_ranges.specs.declared.fault.Unclear.TheVariants as u
-
-pub data Reason : Type 0 where
-  -- a row leaves its type, or a start value its row
-  Starts : Reason
-  -- what a connected input takes leaves its row
-  Links : Reason
-  -- an algorithm may leave a row
-  Keeps : Reason
-  -- an algorithm or a guard may divide by 0, or index out of bounds
-  Divides : Reason
-
--- a refusal by what its reason says of its path; or memory ran out
-abbrev pub Refuses : (Reason → List ℕ → Type 0) → Unclear → Type 0
-Refuses P u.OutOfMemory = Unit {0}
-Refuses P (u.Start path) = P Starts (string_bytes path)
-Refuses P (u.Link path) = P Links (string_bytes path)
-Refuses P (u.Kept path) = P Keeps (string_bytes path)
-Refuses P (u.IndexOrDivisor path) = P Divides (string_bytes path)
+use Rattle.fb_faults.specs.declared.unclear.Unclear.{Unclear}
+use Rattle.fb_faults.specs.declared.unclear.Unclear.TheVariants as u
+use Rattle.fb_model.specs.Misfits.{Reason, Refuses}
 
 -- the path of a refusal is that of a leaf, and behind it a name
 abbrev pub Blames : Name → (Reason → Name → Type 0) → Unclear → Type 0

@@ -8,9 +8,10 @@ use Rattle.fb_model.specs.Ranges.{Range, LeafClears}
 use Rattle.fb_flat.specs.declared.flat.Leaf.{Leaf}
 use Rattle.fb_flat.specs.declared.flat.FlatDevice.{FlatDevice}
 use Rattle.fb_flat.specs.Tables.{AreLeaves, IsLeaf, IsDevice}
-use Rattle.fb_check_ranges.specs.declared.fault.Unclear.{Unclear}
-use Rattle.fb_check_ranges.specs.Reasons.{Refuses}
-use Rattle.fb_check_ranges.specs.Fitting.{IsKnownLeaf, LeafFails, OneLeafFails}
+use Rattle.fb_faults.specs.declared.unclear.Unclear.{Unclear}
+use Rattle.fb_model.specs.Misfits.{Refuses}
+use Rattle.fb_check_ranges.specs.Fitting.{IsKnownLeaf}
+use Rattle.fb_model.specs.Misfits.{LeafFails, OneLeafFails}
 
 abbrev pub AreKnownLeaves : List wires.Leaf → Type 0
 AreKnownLeaves bs = AllByRecursion IsKnownLeaf bs

@@ -12,12 +12,14 @@ ghost use Rattle.fb_flat.specs.Tables.{book_source, source_at};
 ghost use Rattle.fb_types_blocks.specs.Views.{declared_of};
 ghost use Rattle.fb_ranges_intervals.specs.Views.{span_of};
 ghost use Rattle.fb_check_ranges.specs.Rows.{row_in};
-ghost use Rattle.fb_check_ranges.specs.Reasons.{Starts, Lacks, Names, NamesOne};
+ghost use Rattle.fb_check_ranges.specs.Reasons.{Lacks, Names, NamesOne};
+ghost use Rattle.fb_model.specs.Misfits.{Starts};
 ghost use Rattle.fb_check_ranges.specs.Places.{held};
-ghost use Rattle.fb_check_ranges.specs.Beginning.{entry_name, shown, IsRange, Begins, InputBegins, OtherBegins};
+ghost use Rattle.fb_check_ranges.specs.Beginning.{entry_name, shown, IsRange, InputBegins, OtherBegins};
+ghost use Rattle.fb_model.specs.Misfits.{Begins};
 ghost use Rattle.fb_check_ranges.specs.Clearing.{InputFails, OtherFails};
 
-use crate::fault::Unclear;
+use fb_faults::Unclear;
 use crate::link::source_named;
 use crate::row::row;
 use fb_cert::Certificate;

@@ -8,10 +8,11 @@ ghost use Rattle.fb_model.specs.Ranges.{LeafClears};
 ghost use Rattle.fb_cert.specs.Views.{certificate_of};
 ghost use Rattle.fb_flat.specs.Tables.{AreLeaves, AreDevices};
 ghost use Rattle.fb_check_ranges.specs.Places.{ArePlaces};
-ghost use Rattle.fb_check_ranges.specs.Fitting.{AreKnown, AllClear, IsUnclear, OneLeafFails};
+ghost use Rattle.fb_check_ranges.specs.Fitting.{AreKnown};
+ghost use Rattle.fb_model.specs.Misfits.{AllClear, IsUnclear, OneLeafFails};
 ghost use Rattle.fb_check_ranges.specs.Tables.{AreKnownLeaves, DevicePasses, DeviceRefused};
 
-use crate::fault::Unclear;
+use fb_faults::Unclear;
 use crate::leaf::leaf_clear;
 use crate::place::{Places, leaves_of, places};
 use fb_cert::Certificate;

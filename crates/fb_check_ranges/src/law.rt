@@ -3,9 +3,9 @@
 ghost use Rattle.std.specs.Prelude.{◌≡◌, List};
 ghost use Rattle.fb_model.specs.System.{System};
 ghost use Rattle.fb_model.specs.Ranges.{Range};
-ghost use Rattle.fb_check_ranges.specs.declared.fault.Unclear.{Unclear};
-ghost use Rattle.fb_check_ranges.specs.declared.fault.Unclear.TheVariants.{OutOfMemory};
-ghost use Rattle.fb_check_ranges.specs.Fitting.{AllClear, IsUnclear};
+ghost use Rattle.fb_faults.specs.declared.unclear.Unclear.{Unclear};
+ghost use Rattle.fb_faults.specs.declared.unclear.Unclear.TheVariants.{OutOfMemory};
+ghost use Rattle.fb_model.specs.Misfits.{AllClear, IsUnclear};
 
 /// Where something is not clear, not all is; so no refusal is told of a system whose rows are all clear.
 pub fn refusals_deny()

@@ -8,12 +8,13 @@ ghost use Rattle.fb_flat.specs.declared.flat.Leaf.{Leaf};
 ghost use Rattle.fb_flat.specs.Tables.{book_source, source_at};
 ghost use Rattle.fb_ranges_intervals.specs.Views.{span_of};
 ghost use Rattle.fb_check_ranges.specs.Rows.{row_in};
-ghost use Rattle.fb_check_ranges.specs.Reasons.{Links, Lacks, Names, NamesOne};
+ghost use Rattle.fb_check_ranges.specs.Reasons.{Lacks, Names, NamesOne};
+ghost use Rattle.fb_model.specs.Misfits.{Links};
 ghost use Rattle.fb_check_ranges.specs.Places.{ArePlaces, held, SourceLies};
 ghost use Rattle.fb_check_ranges.specs.Beginning.{entry_name, shown, LinkLies};
 ghost use Rattle.fb_check_ranges.specs.Clearing.{LinkFails};
 
-use crate::fault::Unclear;
+use fb_faults::Unclear;
 use crate::place::Places;
 use crate::row::{leaf_row, row};
 use fb_cert::Certificate;

@@ -5,9 +5,10 @@ ghost use Rattle.fb_model.specs.Ranges.{IsClearAlgorithm, IsClearGuard};
 ghost use Rattle.st_types.specs.CommandViews.{commands_of};
 ghost use Rattle.fb_ranges.specs.Views.{spans_of};
 ghost use Rattle.fb_check_ranges.specs.Reasons.{Names, NamesOne};
-ghost use Rattle.fb_check_ranges.specs.Clearing.{AlgorithmFails, GuardFails, procedure_name, procedure_text, guard_in};
+ghost use Rattle.fb_check_ranges.specs.Clearing.{AlgorithmFails, procedure_name, procedure_text, guard_in};
+ghost use Rattle.fb_model.specs.Misfits.{GuardFails};
 
-use crate::fault::Unclear;
+use fb_faults::Unclear;
 use fb_flat::joined;
 use fb_ranges::{RangeFault, Ranges, check_algorithm, check_guard, copied};
 use fb_types_blocks::Transition;

@@ -19,7 +19,8 @@ use Rattle.fb_flat.specs.Leaves.{kind_of}
 use Rattle.fb_flat.specs.Tables.{IsLeaf}
 use Rattle.fb_flat.proofs.Dotted.{placed_at}
 use Rattle.fb_model_laws.proofs.Following.{word_of}
-use Rattle.fb_check_rows.specs.Depths.{places_at, at_arrival, arrival_of, is_begun, Arrives, IsMost, begin_of, IsBegin}
+use Rattle.fb_check_rows.specs.Depths.{places_at, at_arrival, arrival_of, is_begun, Arrives, IsMost, IsBegin}
+use Rattle.fb_model.specs.Finding.{begin_of}
 
 -- none, or one whose name is a word
 data IsFew : List Name → Type 0 where

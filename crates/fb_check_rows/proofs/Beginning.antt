@@ -6,7 +6,8 @@ use Rattle.fb_cert.specs.declared.certificate.Certificate.{Certificate}
 use Rattle.fb_cert.specs.Views.{certificate_of}
 use Rattle.fb_flat.specs.declared.flat.Leaf.{Leaf}
 use Rattle.fb_flat.specs.Tables.{IsLeaf, AreLeaves}
-use Rattle.fb_check_rows.specs.Depths.{begin_of, IsBegin, begins_of}
+use Rattle.fb_check_rows.specs.Depths.{IsBegin}
+use Rattle.fb_model.specs.Finding.{begin_of, begins_of}
 
 -- what is left is enough for the leaves from here on just where the depth is for all
 abbrev pub IsLeft : Certificate → List Leaf → ℕ → ℕ → ℕ → Type 0

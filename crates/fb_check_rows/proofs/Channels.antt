@@ -17,8 +17,8 @@ use Rattle.fb_flat.specs.declared.flat.FlatDevice.{FlatDevice}
 use Rattle.fb_flat.specs.Leaves.{kind_of}
 use Rattle.fb_flat.specs.Tables.{AreLeaves, AreResources, AreDevices}
 use Rattle.fb_cert.specs.Views.{Rows, has_number, channel_rows}
-use Rattle.fb_check_rows.specs.declared.fault.RowFault.{RowFault}
-use Rattle.fb_check_rows.specs.declared.fault.RowFault.TheVariants.{OutOfMemory, Unknown, Missing, UnknownChannel, MissingChannel}
+use Rattle.fb_faults.specs.declared.row.RowFault.{RowFault}
+use Rattle.fb_faults.specs.declared.row.RowFault.TheVariants.{OutOfMemory, Unknown, Missing, UnknownChannel, MissingChannel}
 use Rattle.fb_check_rows.specs.Channels.{is_one, at_most_one, leaf_channels, resource_channels, device_channels, channels_named, HasChannel, IsNamed, MissesChannel, KnowsNot, channels_due, HaveSameChannels, IsOtherChannel}
 
 -- ---- what is among the channels of leaves

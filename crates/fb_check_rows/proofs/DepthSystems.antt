@@ -21,36 +21,38 @@ use Rattle.fb_flat.specs.declared.flat.Leaf.{Leaf}
 use Rattle.fb_flat.specs.declared.flat.FlatResource.{FlatResource}
 use Rattle.fb_flat.specs.declared.flat.FlatDevice.{FlatDevice}
 use Rattle.fb_flat.specs.Tables.{IsLeaf, AreLeaves, IsResource, AreResources, IsDevice, AreDevices}
-use Rattle.fb_check_rows.specs.declared.shallow.Shallow.{Shallow}
-use Rattle.fb_check_rows.specs.declared.shallow.Shallow.TheVariants.{OutOfMemory, Depth}
-use Rattle.fb_check_rows.specs.Depths.{IsDeep, Some, IsShallow, IsShallowFault, depth_of, Arrives, LeafArrives, begin_of, begins_of, ResourceFits, DeviceFits, ArrivalFails, BeginFails, IsDepthFault}
+use Rattle.fb_faults.specs.declared.shallow.Shallow.{Shallow}
+use Rattle.fb_faults.specs.declared.shallow.Shallow.TheVariants.{OutOfMemory, Depth}
+use Rattle.fb_check_rows.specs.Depths.{IsDeep, depth_of, Arrives, LeafArrives, ResourceFits, DeviceFits, ArrivalFails, BeginFails, IsDepthFault}
+use Rattle.fb_model.specs.Finding.{begin_of, begins_of}
+use Rattle.fb_model.specs.Misfits.{OneOf, IsShallow, IsShallowFault}
 
 -- ---- one of a list
 
 tail_of : {X : Type 0} (P : X → Type 0) (y : X) (xs : List X) (k : ℕ) (x : X) → suc k < length (y ∷ xs) → get_or (y ∷ xs) (suc k) x ≡ x → P x → Any P xs
 tail_of P y xs k x l e p = (k, x, omega (arith, l), e, p)
 
-pub some_of : {X : Type 0} (P : X → Type 0) (xs : List X) → Any P xs → Some P xs
+pub some_of : {X : Type 0} (P : X → Type 0) (xs : List X) → Any P xs → OneOf P xs
 some_of P [] a = absurd (omega (arith, a.2))
 some_of P (y ∷ xs) (zero, x, l, e, p) = inl (subst P (sym e) p)
 some_of P (y ∷ xs) (suc k, x, l, e, p) = inr (some_of P xs (tail_of P y xs k x l e p))
 
-pub some_left : {X : Type 0} (P : X → Type 0) (xs ys : List X) → Some P xs → Some P (xs ++ ys)
+pub some_left : {X : Type 0} (P : X → Type 0) (xs ys : List X) → OneOf P xs → OneOf P (xs ++ ys)
 some_left P [] ys s = absurd s
 some_left P (x ∷ xs) ys (inl p) = inl p
 some_left P (x ∷ xs) ys (inr s) = inr (some_left P xs ys s)
 
-pub some_right : {X : Type 0} (P : X → Type 0) (xs ys : List X) → Some P ys → Some P (xs ++ ys)
+pub some_right : {X : Type 0} (P : X → Type 0) (xs ys : List X) → OneOf P ys → OneOf P (xs ++ ys)
 some_right P [] ys s = s
 some_right P (x ∷ xs) ys s = inr (some_right P xs ys s)
 
-some_weaker : {X : Type 0} (P Q : X → Type 0) (xs : List X) → ((x : X) → P x → Q x) → Some P xs → Some Q xs
+some_weaker : {X : Type 0} (P Q : X → Type 0) (xs : List X) → ((x : X) → P x → Q x) → OneOf P xs → OneOf Q xs
 some_weaker P Q [] f s = s
 some_weaker P Q (x ∷ xs) f (inl p) = inl (f x p)
 some_weaker P Q (x ∷ xs) f (inr s) = inr (some_weaker P Q xs f s)
 
 -- what all have, none lacks
-pub none_lacks : {X : Type 0} (P Q : X → Type 0) (xs : List X) → ((x : X) → P x → Q x → ⊥) → AllByRecursion P xs → Some Q xs → ⊥
+pub none_lacks : {X : Type 0} (P Q : X → Type 0) (xs : List X) → ((x : X) → P x → Q x → ⊥) → AllByRecursion P xs → OneOf Q xs → ⊥
 none_lacks P Q [] f a s = s
 none_lacks P Q (x ∷ xs) f a (inl q) = f x a.0 q
 none_lacks P Q (x ∷ xs) f a (inr s) = none_lacks P Q xs f a.1 s
@@ -198,8 +200,8 @@ devices_deep cert (f ∷ fs) [] p a = absurd a
 
 -- ---- refusals
 
-leaves_lack : (cert : Certificate) (most n : ℕ) (ls : List Leaf) (bs : List wires.Leaf) → Some (λ l. (leaf : wires.Leaf) → IsLeaf l leaf → Arrives cert most leaf → ⊥) ls → AreLeaves ls bs → AllByRecursion (λ (b : wires.Leaf). b.home ≡ n) bs
-    → Some (λ (b : wires.Leaf). (b.home ≡ n) × (Arrives cert most b → ⊥)) bs
+leaves_lack : (cert : Certificate) (most n : ℕ) (ls : List Leaf) (bs : List wires.Leaf) → OneOf (λ l. (leaf : wires.Leaf) → IsLeaf l leaf → Arrives cert most leaf → ⊥) ls → AreLeaves ls bs → AllByRecursion (λ (b : wires.Leaf). b.home ≡ n) bs
+    → OneOf (λ (b : wires.Leaf). (b.home ≡ n) × (Arrives cert most b → ⊥)) bs
 leaves_lack cert most n [] bs s a h = absurd s
 leaves_lack cert most n (l ∷ ls) [] s a h = absurd a
 leaves_lack cert most n (l ∷ ls) (b ∷ bs) (inl p) a h = inl (h.0, p b a.0)
@@ -210,15 +212,15 @@ record Lacks (cert : book.Certificate) (device : system.Device) (path : Name) (n
   m : ℕ
   after : n ≤ m
   named : names_in path ≡ device.name ∷ name_at device.resources m ∷ []
-  lack : Some (λ (b : wires.Leaf). (b.home ≡ m) × (ArrivalsFit cert device b → ⊥)) all ⊎ (begin_places cert all m ≤ book.depth_of cert device m → ⊥)
+  lack : OneOf (λ (b : wires.Leaf). (b.home ≡ m) × (ArrivalsFit cert device b → ⊥)) all ⊎ (begin_places cert all m ≤ book.depth_of cert device m → ⊥)
 
 lacks_on : (cert : book.Certificate) (device : system.Device) (path : Name) (n : ℕ) (r : system.Resource) (rs : List system.Resource) → Lacks cert device path (n + 1) (leaves_from (n + 1) (device.name ∷ []) rs) → Lacks cert device path n (leaves_from n (device.name ∷ []) (r ∷ rs))
 lacks_on cert device path n r rs x = record { m = x.m; after = omega (arith, x.after); named = x.named; lack = by x.lack } where
   other : (n == x.m) ≡ false
   other = ne_eqb n x.m (λ e. omega (arith, e, x.after))
 
-  by : (Some (λ (b : wires.Leaf). (b.home ≡ x.m) × (ArrivalsFit cert device b → ⊥)) (leaves_from (n + 1) (device.name ∷ []) rs) ⊎ (begin_places cert (leaves_from (n + 1) (device.name ∷ []) rs) x.m ≤ book.depth_of cert device x.m → ⊥))
-      → (Some (λ (b : wires.Leaf). (b.home ≡ x.m) × (ArrivalsFit cert device b → ⊥)) (leaves_from n (device.name ∷ []) (r ∷ rs)) ⊎ (begin_places cert (leaves_from n (device.name ∷ []) (r ∷ rs)) x.m ≤ book.depth_of cert device x.m → ⊥))
+  by : (OneOf (λ (b : wires.Leaf). (b.home ≡ x.m) × (ArrivalsFit cert device b → ⊥)) (leaves_from (n + 1) (device.name ∷ []) rs) ⊎ (begin_places cert (leaves_from (n + 1) (device.name ∷ []) rs) x.m ≤ book.depth_of cert device x.m → ⊥))
+      → (OneOf (λ (b : wires.Leaf). (b.home ≡ x.m) × (ArrivalsFit cert device b → ⊥)) (leaves_from n (device.name ∷ []) (r ∷ rs)) ⊎ (begin_places cert (leaves_from n (device.name ∷ []) (r ∷ rs)) x.m ≤ book.depth_of cert device x.m → ⊥))
   by (inl s) = inl (some_right _ (resource_leaves n (device.name ∷ []) r) (leaves_from (n + 1) (device.name ∷ []) rs) s)
   by (inr f) = inr (λ h. f (subst (λ k. k ≤ book.depth_of cert device x.m) (begin_next cert n x.m (device.name ∷ []) r rs other) h))
 
@@ -233,7 +235,7 @@ lacks_here cert device path n f r rs at is fault =
       c = certificate_of cert
 
       by : (ArrivalFails cert f ⊎ BeginFails cert f)
-          → (Some (λ (b : wires.Leaf). (b.home ≡ n) × (ArrivalsFit c device b → ⊥)) (leaves_from n (device.name ∷ []) (r ∷ rs)) ⊎ (begin_places c (leaves_from n (device.name ∷ []) (r ∷ rs)) n ≤ book.depth_of c device n → ⊥))
+          → (OneOf (λ (b : wires.Leaf). (b.home ≡ n) × (ArrivalsFit c device b → ⊥)) (leaves_from n (device.name ∷ []) (r ∷ rs)) ⊎ (begin_places c (leaves_from n (device.name ∷ []) (r ∷ rs)) n ≤ book.depth_of c device n → ⊥))
       by (inl p) =
           inl
           (some_left _ (resource_leaves n (device.name ∷ []) r) (leaves_from (n + 1) (device.name ∷ []) rs)
@@ -245,14 +247,14 @@ lacks_here cert device path n f r rs at is fault =
           (λ h. p (resource_leaves n (device.name ∷ []) r) is.leaves
           (subst (λ m. begins_of c (resource_leaves n (device.name ∷ []) r) ≤ m) (sym (depth_of_number cert device n f r is.path_is here)) (subst (λ m. m ≤ book.depth_of c device n) (begin_first c n (device.name ∷ []) r rs) h)))
 
-resources_lack : (cert : Certificate) (device : system.Device) (path : String Global) (n : ℕ) (fs : List FlatResource) (rs : List system.Resource) → IsFrom device n rs → Some (λ r. IsDepthFault cert r (Depth path)) fs → AreResources n (device.name ∷ []) fs rs
+resources_lack : (cert : Certificate) (device : system.Device) (path : String Global) (n : ℕ) (fs : List FlatResource) (rs : List system.Resource) → IsFrom device n rs → OneOf (λ r. IsDepthFault cert r (Depth path)) fs → AreResources n (device.name ∷ []) fs rs
     → Lacks (certificate_of cert) device (string_bytes path) n (leaves_from n (device.name ∷ []) rs)
 resources_lack cert device path n [] rs at s a = absurd s
 resources_lack cert device path n (x ∷ fs) [] at s a = absurd a
 resources_lack cert device path n (x ∷ fs) (r ∷ rs) at (inl p) a = lacks_here cert device path n x r rs at a.0 p
 resources_lack cert device path n (x ∷ fs) (r ∷ rs) at (inr s) a = lacks_on (certificate_of cert) device (string_bytes path) n r rs (resources_lack cert device path (n + 1) fs rs (names_next device n r rs at) s a.1)
 
-devices_lack : (cert : Certificate) (path : String Global) (fs : List FlatDevice) (ds : List system.Device) → Some (λ d. Any (λ r. IsDepthFault cert r (Depth path)) d.resources.items) fs → AreDevices fs ds → Some (IsShallow (certificate_of cert) (string_bytes path)) ds
+devices_lack : (cert : Certificate) (path : String Global) (fs : List FlatDevice) (ds : List system.Device) → OneOf (λ d. Any (λ r. IsDepthFault cert r (Depth path)) d.resources.items) fs → AreDevices fs ds → OneOf (IsShallow (certificate_of cert) (string_bytes path)) ds
 devices_lack cert path [] ds s a = absurd s
 devices_lack cert path (x ∷ fs) [] s a = absurd a
 devices_lack cert path (x ∷ fs) (d ∷ ds) (inl p) a =

@@ -15,11 +15,12 @@ use Rattle.fb_cert.specs.Views.{Table, Rows, range_rows, amount_rows, depth_rows
 use Rattle.fb_check_rows.specs.declared.kind.RowKind.TheVariants.{Charge, Weight, Depth}
 use Rattle.fb_check_rows.specs.declared.kind.PathRows.{PathRows}
 use Rattle.fb_check_rows.specs.declared.kind.PathRows.TheVariants.{Charges, Weights, Ranges, Depths, Fars, FarStates}
-use Rattle.fb_check_rows.specs.declared.fault.RowFault.{RowFault}
-use Rattle.fb_check_rows.specs.declared.fault.RowFault.TheVariants.{OutOfMemory, Unknown, Missing, UnknownChannel, MissingChannel}
+use Rattle.fb_faults.specs.declared.row.RowFault.{RowFault}
+use Rattle.fb_faults.specs.declared.row.RowFault.TheVariants.{OutOfMemory, Unknown, Missing, UnknownChannel, MissingChannel}
 use Rattle.fb_check_rows.specs.Texts.{paths, paths_of, texts_of, texts_due, HaveSameRows, HaveOtherRows}
 use Rattle.fb_check_rows.specs.Channels.{IsOtherChannel}
-use Rattle.fb_check_rows.specs.Faults.{due, is_at, is_among, unknown_place, unknown_depth, missing_place, missing_depth, IsDifference, IsRowFault, HasNoRowTwice}
+use Rattle.fb_check_rows.specs.Faults.{IsDifference, IsRowFault, HasNoRowTwice}
+use Rattle.fb_model.specs.Misfits.{due, is_at, is_among, unknown_place, unknown_depth, missing_place, missing_depth}
 use Rattle.fb_check_rows.proofs.Places.{same_places, same_paths, any_place, any_path}
 use Rattle.fb_check_rows.proofs.Systems.{devices_placed, devices_named, devices_ranged}
 use Rattle.fb_check_rows.proofs.Channels.{due_same, rows_same}

@@ -9,8 +9,8 @@ use Rattle.fb_model.specs.Names.{Name, is_in}
 use Rattle.fb_model.proofs.Lists.{same_name}
 use Rattle.fb_types_blocks.specs.Answers.{Extends}
 use Rattle.fb_check_rows.proofs.Names.{bytes_same, bytes_turned}
-use Rattle.fb_check_rows.specs.declared.fault.RowFault.{RowFault}
-use Rattle.fb_check_rows.specs.declared.fault.RowFault.TheVariants.{OutOfMemory, Unknown, Missing, UnknownChannel, MissingChannel}
+use Rattle.fb_faults.specs.declared.row.RowFault.{RowFault}
+use Rattle.fb_faults.specs.declared.row.RowFault.TheVariants.{OutOfMemory, Unknown, Missing, UnknownChannel, MissingChannel}
 use Rattle.fb_check_rows.specs.Members.{HasSame, AreAmong, gathered, with_name}
 use Rattle.fb_check_rows.specs.Faults.{IsDifference}
 

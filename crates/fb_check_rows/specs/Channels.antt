@@ -8,8 +8,8 @@ use Rattle.fb_flat.specs.declared.flat.FlatResource.{FlatResource}
 use Rattle.fb_flat.specs.declared.flat.FlatDevice.{FlatDevice}
 use Rattle.fb_flat.specs.Leaves.{kind_of}
 use Rattle.fb_cert.specs.Views.{Rows, has_number}
-use Rattle.fb_check_rows.specs.declared.fault.RowFault.{RowFault}
-use Rattle.fb_check_rows.specs.declared.fault.RowFault.TheVariants.{OutOfMemory, Unknown, Missing, UnknownChannel, MissingChannel}
+use Rattle.fb_faults.specs.declared.row.RowFault.{RowFault}
+use Rattle.fb_faults.specs.declared.row.RowFault.TheVariants.{OutOfMemory, Unknown, Missing, UnknownChannel, MissingChannel}
 
 -- a number is one of these
 abbrev pub is_one : ℕ → List ℕ → Bool

@@ -1,15 +1,14 @@
 -- When queues are deep enough for what comes from outside: for each arrival, and for all BEGIN of a resource, which arrive at once.
 -- This project's profile.
-use Rattle.std.specs.Prelude.{ℕ, ◌≡◌, ◌+◌, ◌≤◌, ◌↔◌, ◌⊎◌, Bool, true, false, List, [], ◌∷◌, string_bytes, if◌then◌else◌}
+use Rattle.std.specs.Prelude.{ℕ, ◌≡◌, ◌≤◌, ◌↔◌, ◌⊎◌, Bool, List, [], ◌∷◌, string_bytes}
 use Rattle.std.specs.List.{Any, AllByRecursion}
 use Rattle.fb_model.specs.Names.{Name, at_place}
-use Rattle.fb_model.specs.System as book
-use Rattle.fb_model.specs.System.{Service, Device, System}
-use Rattle.fb_model.specs.Services.{arrivals, begin}
+use Rattle.fb_model.specs.System.{Service, Device}
+use Rattle.fb_model.specs.Services.{arrivals}
 use Rattle.fb_model.specs.Wires as wires
 use Rattle.fb_model.specs.Wires.{leaves}
 use Rattle.fb_model.specs.Certificates as certs
-use Rattle.fb_model.specs.Certificates.{ArrivalsFit, begin_places, kind_arrivals, is_restart, name_at}
+use Rattle.fb_model.specs.Certificates.{ArrivalsFit, begin_places, kind_arrivals, is_restart}
 use Rattle.fb_model.specs.CertificateText.{names_in, place_of}
 use Rattle.fb_cert.specs.declared.certificate.Certificate.{Certificate}
 use Rattle.fb_cert.specs.Views.{certificate_of}
@@ -18,8 +17,9 @@ use Rattle.fb_flat.specs.declared.flat.FlatResource.{FlatResource}
 use Rattle.fb_flat.specs.declared.flat.FlatDevice.{FlatDevice}
 use Rattle.fb_flat.specs.Sites.{dotted}
 use Rattle.fb_flat.specs.Tables.{IsLeaf, AreLeaves}
-use Rattle.fb_check_rows.specs.declared.shallow.Shallow.{Shallow}
-use Rattle.fb_check_rows.specs.declared.shallow.Shallow.TheVariants.{OutOfMemory, Depth}
+use Rattle.fb_faults.specs.declared.shallow.Shallow.{Shallow}
+use Rattle.fb_faults.specs.declared.shallow.Shallow.TheVariants.{OutOfMemory, Depth}
+use Rattle.fb_model.specs.Finding.{begin_of, begins_of}
 
 -- ---- a system
 
@@ -27,22 +27,6 @@ use Rattle.fb_check_rows.specs.declared.shallow.Shallow.TheVariants.{OutOfMemory
 pub record IsDeep (cert : certs.Certificate) (d : Device) : Type 0 where
   pub arrivals : AllByRecursion (ArrivalsFit cert d) (leaves d)
   pub begins : (q : ℕ) → begin_places cert (leaves d) q ≤ certs.depth_of cert d q
-
--- one of them
-abbrev pub Some : {X : Type 0} → (X → Type 0) → List X → Type 0
-Some P [] = ⊥
-Some P (x ∷ xs) = P x ⊎ Some P xs
-
--- an arrival of the resource of this path takes more places than its depth, or all its BEGIN do
-abbrev pub IsShallow : certs.Certificate → Name → Device → Type 0
-IsShallow cert path d =
-    (n : ℕ) × (names_in path ≡ d.name ∷ name_at d.resources n ∷ [])
-    × (Some (λ (leaf : wires.Leaf). (leaf.home ≡ n) × (ArrivalsFit cert d leaf → ⊥)) (leaves d) ⊎ (begin_places cert (leaves d) n ≤ certs.depth_of cert d n → ⊥))
-
--- what a refusal says is so
-abbrev pub IsShallowFault : certs.Certificate → System → Shallow → Type 0
-IsShallowFault cert s OutOfMemory = Unit {0}
-IsShallowFault cert s (Depth path) = Some (IsShallow cert (string_bytes path)) s.devices
 
 -- ---- leaves of tables
 
@@ -77,17 +61,8 @@ LeafArrives cert most l = (leaf : wires.Leaf) → IsLeaf l leaf → Arrives cert
 abbrev pub IsMost : Certificate → Leaf → ℕ → Type 0
 IsMost cert l n = (leaf : wires.Leaf) → IsLeaf l leaf → (most : ℕ) → (n ≤ most) ↔ Arrives cert most leaf
 
--- the places of a leaf's BEGIN
-abbrev pub begin_of : certs.Certificate → wires.Leaf → ℕ
-begin_of cert leaf = if is_restart leaf.kind then (certs.places_of cert).weight (at_place leaf.path begin) else 0
-
 abbrev pub IsBegin : Certificate → Leaf → ℕ → Type 0
 IsBegin cert l n = (leaf : wires.Leaf) → IsLeaf l leaf → begin_of (certificate_of cert) leaf ≡ n
-
--- the places of all BEGIN
-abbrev pub begins_of : certs.Certificate → List wires.Leaf → ℕ
-begins_of cert [] = 0
-begins_of cert (leaf ∷ rest) = begin_of cert leaf + begins_of cert rest
 
 -- ---- resources and devices of tables
 

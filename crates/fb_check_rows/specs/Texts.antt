@@ -15,7 +15,7 @@ use Rattle.fb_check_rows.specs.declared.kind.RowKind.{RowKind}
 use Rattle.fb_check_rows.specs.declared.kind.RowKind.TheVariants.{Charge, Weight, Range, Depth}
 use Rattle.fb_check_rows.specs.declared.kind.PathRows.{PathRows}
 use Rattle.fb_check_rows.specs.declared.kind.PathRows.TheVariants.{Charges, Weights, Ranges, Depths, Fars, FarStates}
-use Rattle.fb_check_rows.specs.declared.fault.RowFault.{RowFault}
+use Rattle.fb_faults.specs.declared.row.RowFault.{RowFault}
 use Rattle.fb_check_rows.specs.Members.{HasSame}
 use Rattle.fb_check_rows.specs.Faults.{IsDifference}
 use Rattle.fb_check_rows.specs.Channels.{HaveSameChannels, IsOtherChannel}

@@ -5,11 +5,12 @@ ghost use Rattle.std.specs.List.{AllByRecursion, Any};
 ghost use Rattle.fb_model.specs.System.{System};
 ghost use Rattle.fb_cert.specs.Views.{certificate_of};
 ghost use Rattle.fb_flat.specs.Tables.{AreDevices};
-ghost use Rattle.fb_check_rows.specs.Depths.{ResourceFits, DeviceFits, IsDepthFault, IsDeep, IsShallowFault};
+ghost use Rattle.fb_check_rows.specs.Depths.{ResourceFits, DeviceFits, IsDepthFault, IsDeep};
+ghost use Rattle.fb_model.specs.Misfits.{IsShallowFault};
 
 use crate::begin::begins_fit;
 use crate::resource::arrivals_fit;
-use crate::shallow::Shallow;
+use fb_faults::Shallow;
 use fb_cert::Certificate;
 use fb_flat::{Flat, FlatDevice, FlatResource};
 use std::alloc::Global;

@@ -6,10 +6,11 @@ use Rattle.fb_model.specs.Messages.{Stamp}
 use Rattle.fb_types.specs.declared.typed.Device.{Device as RustDevice}
 use Rattle.fb_types.specs.Views.{device_of}
 use Rattle.fb_verified.specs.declared.verified.Verified.{Verified}
-use Rattle.fb_verdict.specs.declared.refusal.Refusal.TheVariants as checks
+use Rattle.fb_faults.specs.declared.refusal.Refusal.TheVariants as checks
 use Rattle.fb_verified.specs.Lookups.{is_same_path}
 use Rattle.fb_verified.specs.Checked.{system_in}
-use Rattle.fb_verdict.specs.Verdicts.{IsOfTexts, of_application}
+use Rattle.fb_verdict.specs.Verdicts.{IsOfTexts}
+use Rattle.fb_model.specs.Verdicts.{of_application}
 use Rattle.fb_device.specs.declared.refusal.Refusal.{Refusal}
 use Rattle.fb_device.specs.declared.refusal.Refusal.TheVariants.{Checked, NoDevice, Limit}
 use Rattle.fb_device_state.specs.Sessions.{Session}

@@ -21,7 +21,7 @@ use Rattle.fb_device.specs.Answers.{answer_of, HasPlace}
 use Rattle.fb_device.specs.declared.answer.Answer.{Answer as Reply}
 use Rattle.fb_device_state.specs.Machines.{device_at, device_in, cert_in, machine_of}
 use Rattle.fb_device_state.specs.Keeping.{IsGood}
-use Rattle.fb_device.specs.Promises.{IsBounded}
+use Rattle.fb_model.specs.Promises.{IsBounded}
 
 pub promised : (cert : Certificate) (device : Device) (m : Machine) → DeviceHolds cert device → IsSound cert device m → IsBounded cert device m
 promised cert device m fits s = record {

@@ -1,6 +1,5 @@
 pub mod Refusals
 pub mod Answers
-pub mod Promises
 pub mod Silence
 pub mod Loads
 pub mod Openings

@@ -6,13 +6,14 @@ use Rattle.fb_model.specs.Spelling.{upper}
 use Rattle.fb_model.specs.Messages.{Stamp}
 use Rattle.fb_model.specs.Devices.{silent}
 use Rattle.fb_verified.specs.Checked.{system_in}
-use Rattle.fb_types.specs.Written.{IsSystemOf}
-use Rattle.fb_verdict.specs.Verdicts.{IsOfTexts, IsFaultOf}
+use Rattle.fb_model.specs.Written.{IsSystemOf}
+use Rattle.fb_verdict.specs.Verdicts.{IsOfTexts}
+use Rattle.fb_model.specs.Verdicts.{IsFaultOf}
 use Rattle.fb_verified.specs.Lookups.{is_same_path}
 use Rattle.fb_device.specs.declared.refusal.Refusal.{Refusal}
 use Rattle.fb_device.specs.declared.refusal.Refusal.TheVariants.{Checked, NoDevice, Limit}
 use Rattle.fb_verified.specs.declared.verified.Verified.{Verified}
-use Rattle.fb_verdict.specs.declared.refusal.Refusal.TheVariants as checks
+use Rattle.fb_faults.specs.declared.refusal.Refusal.TheVariants as checks
 use Rattle.fb_device_state.specs.Sessions.{Session}
 use Rattle.fb_device_state.specs.Machines.{machine_of}
 use Rattle.fb_device.specs.Silence.{CanBegin}

@@ -1,7 +1,7 @@
 -- The numbers of refusals, and how they are printed: this project's profile.
 use Rattle.std.specs.Prelude.{ℕ, List, ◌++◌, codes, string_bytes}
-use Rattle.fb_verdict.specs.Refusals as check
-use Rattle.fb_verdict.specs.declared.refusal.Refusal.TheVariants as checks
+use Rattle.fb_faults.specs.Refusals as check
+use Rattle.fb_faults.specs.declared.refusal.Refusal.TheVariants as checks
 use Rattle.fb_device.specs.declared.refusal.Refusal.{Refusal}
 use Rattle.fb_device.specs.declared.refusal.Refusal.TheVariants.{Checked, NoDevice, Limit}
 

@@ -12,7 +12,7 @@ ghost use Rattle.fb_device_state.specs.Machines.{device_in, cert_in, machine_of}
 ghost use Rattle.fb_device.specs.Answers.{answer_of, event_of, HasPlace, IsOpening, IsNamed, IsNoPoint, IsNumberOf, IsNoNumber};
 ghost use Rattle.fb_device.specs.Looks.{IsLook, IsFill};
 ghost use Rattle.fb_device.specs.NextDue.{IsNextDue};
-ghost use Rattle.fb_device.specs.Promises.{IsBounded};
+ghost use Rattle.fb_model.specs.Promises.{IsBounded};
 ghost use Rattle.fb_device.specs.Silence.{IsSilent};
 
 use crate::answer::{Answer, Opening, Step};

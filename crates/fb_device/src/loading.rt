@@ -16,11 +16,11 @@ ghost use Rattle.st_exec.specs.Cells.{Form, forms_of};
 ghost use Rattle.fb_chart.specs.Views.{body_kind, kind_of};
 ghost use Rattle.fb_device_values.specs.First.{HaveFirstCells};
 ghost use Rattle.fb_verified.specs.Checked.{system_in, certificate_in, IsChecked};
-ghost use Rattle.fb_types.specs.Written.{IsSystemOf};
-ghost use Rattle.fb_tree.specs.Sources.{IsSource};
+ghost use Rattle.fb_model.specs.Written.{IsSystemOf};
+ghost use Rattle.fb_model.specs.Sources.{IsSource};
 ghost use Rattle.fb_device_tables.specs.Tables.{AreTables};
 ghost use Rattle.fb_device_state.specs.Machines.{device_in, cert_in, machine_of};
-ghost use Rattle.fb_device.specs.Promises.{IsBounded};
+ghost use Rattle.fb_model.specs.Promises.{IsBounded};
 ghost use Rattle.fb_device.specs.Refusals.{no_memory};
 ghost use Rattle.fb_device.specs.Silence.{last_first, CanBegin};
 ghost use Rattle.fb_device.specs.declared.refusal.Refusal.TheVariants.{Limit};
@@ -263,7 +263,7 @@ fn numbered_ready(
         }
         Err(_) => {
             release(verified);
-            Err(Refusal::Checked(fb_verdict::Refusal::OutOfMemory))
+            Err(Refusal::Checked(fb_faults::Refusal::OutOfMemory))
         }
     }
 }
@@ -308,7 +308,7 @@ fn no_device(alloc: Global, device: &str) -> Refusal
             name.make_ascii_uppercase();
             Refusal::NoDevice(name)
         }
-        Err(_) => Refusal::Checked(fb_verdict::Refusal::OutOfMemory),
+        Err(_) => Refusal::Checked(fb_faults::Refusal::OutOfMemory),
     }
 }
 

@@ -9,7 +9,7 @@ use std::fmt;
 #[derive(Drop)]
 pub enum Refusal {
     /// The application or its certificate is refused, or memory ran out. Codes 1 to 20 and 30 to 40.
-    Checked(fb_verdict::Refusal),
+    Checked(fb_faults::Refusal),
     /// The system has no device of this name, in upper case. Code 21.
     NoDevice(String),
     /// The first cause number is above 18446744073709535000, or the first sequence number is 0. Code 19, without a place.
@@ -53,7 +53,7 @@ impl From<AllocError> for Refusal {
     ghost from_gives = { λ _ e. e ≡ no_memory };
 
     fn from(_: AllocError) -> Refusal {
-        Refusal::Checked(fb_verdict::Refusal::OutOfMemory)
+        Refusal::Checked(fb_faults::Refusal::OutOfMemory)
     }
 }
 
@@ -63,6 +63,6 @@ impl<T: Drop> From<AllocFailed<T>> for Refusal {
     ghost from_gives = { λ _ e. e ≡ no_memory };
 
     fn from(_: AllocFailed<T>) -> Refusal {
-        Refusal::Checked(fb_verdict::Refusal::OutOfMemory)
+        Refusal::Checked(fb_faults::Refusal::OutOfMemory)
     }
 }

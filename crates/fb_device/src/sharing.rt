@@ -17,7 +17,7 @@ pub fn share(alloc: Global, verified: Verified) -> Result<Rc<Verified>, Refusal>
         Ok(shared) => Ok(shared),
         Err(refused) => {
             refused.value.let_go();
-            Err(Refusal::Checked(fb_verdict::Refusal::OutOfMemory))
+            Err(Refusal::Checked(fb_faults::Refusal::OutOfMemory))
         }
     }
 }

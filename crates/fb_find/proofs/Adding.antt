@@ -8,7 +8,7 @@ use Rattle.fb_model.specs.System.{System}
 use Rattle.fb_model.specs.Ranges.{Range}
 use Rattle.fb_model.specs.Certificates.{all_leaves}
 use Rattle.fb_model.specs.CertificateText.{most_places, most_steps}
-use Rattle.fb_model_laws.specs.Columns.{demands}
+use Rattle.fb_model.specs.Columns.{demands}
 use Rattle.fb_cert.specs.Adding.{is_upper_path}
 use Rattle.fb_cert.specs.Views.{Rows}
 use Rattle.fb_flat.specs.declared.flat.FlatDevice.{FlatDevice}

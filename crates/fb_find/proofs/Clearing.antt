@@ -20,11 +20,12 @@ use Rattle.fb_model_laws.proofs.Beginning.{good_rows_begin, RowsBegin}
 use Rattle.fb_cert.specs.Adding.{is_upper_path}
 use Rattle.fb_cert.specs.Views.{no_rows, range_rows, Rows}
 use Rattle.fb_flat.specs.declared.flat.FlatDevice.{FlatDevice}
-use Rattle.fb_check_ranges.specs.declared.fault.Unclear.{Unclear}
-use Rattle.fb_check_ranges.specs.declared.fault.Unclear.TheVariants as unclear
-use Rattle.fb_check_ranges.specs.Beginning.{Begins}
-use Rattle.fb_check_ranges.specs.Fitting.{AllClear, AreKnown, ChartFails, IsKnownLeaf, IsUnclear, KindFails, LeafFails}
-use Rattle.fb_check_ranges.specs.Reasons.{Reason, Starts, Links}
+use Rattle.fb_faults.specs.declared.unclear.Unclear.{Unclear}
+use Rattle.fb_faults.specs.declared.unclear.Unclear.TheVariants as unclear
+use Rattle.fb_model.specs.Misfits.{Begins}
+use Rattle.fb_check_ranges.specs.Fitting.{AreKnown, IsKnownLeaf}
+use Rattle.fb_model.specs.Misfits.{AllClear, ChartFails, IsUnclear, KindFails, LeafFails}
+use Rattle.fb_model.specs.Misfits.{Reason, Starts, Links}
 use Rattle.fb_find_ranges.specs.Found.{spelled}
 use Rattle.fb_check_rows.specs.declared.kind.RowKind.TheVariants as rows_of_kind
 use Rattle.fb_check_rows.specs.Texts.{texts_of}
@@ -33,10 +34,10 @@ use Rattle.fb_find_ranges.specs.FoundTables.{AreFoundTables}
 use Rattle.fb_find_ranges.proofs.Capitals.{rows_have_capitals}
 use Rattle.fb_find_ranges.proofs.Distinct.{ranges_are_apart}
 use Rattle.fb_find.specs.Given.{IsGiven}
-use Rattle.fb_find_rows.specs.declared.fault.NoBound.{NoBound}
-use Rattle.fb_find_rows.specs.declared.fault.NoBound.TheVariants.{OutOfMemory, Cycle, NoRange, Limit}
-use Rattle.fb_model_laws.specs.FinderRanges.{AreFound}
-use Rattle.fb_find.specs.Bounds.{IsNoBound, IsNoBoundAt}
+use Rattle.fb_faults.specs.declared.no_bound.NoBound.{NoBound}
+use Rattle.fb_faults.specs.declared.no_bound.NoBound.TheVariants.{OutOfMemory, Cycle, NoRange, Limit}
+use Rattle.fb_model.specs.FinderRanges.{AreFound}
+use Rattle.fb_model.specs.Finding.{IsNoBound, IsNoBoundAt}
 use Rattle.fb_find.specs.Parts.{HasRanges, HaveTables, told_of}
 use Rattle.fb_find.proofs.Lists.{none_lacks}
 use Rattle.fb_find.proofs.Taking.{above_weaker, spelled_places}

@@ -4,8 +4,8 @@ use Rattle.fb_model.specs.System.{System}
 use Rattle.fb_model.specs.Ranges.{Range}
 use Rattle.fb_model.specs.Certificates.{all_leaves, channels_of}
 use Rattle.fb_model_laws.proofs.Closed.{all_charts_closed}
-use Rattle.fb_model_laws.specs.Demands.{bare_demands}
-use Rattle.fb_model_laws.specs.Columns.{demands, network_demands}
+use Rattle.fb_model.specs.Demands.{bare_demands}
+use Rattle.fb_model.specs.Columns.{demands, network_demands}
 use Rattle.fb_find_laws.specs.Numbered.{AreNumbers, AreOf}
 use Rattle.fb_find_laws.specs.Nodes.{Numbered, number, nodes_of, AreRowsOf, AskForAll}
 use Rattle.fb_find_laws.proofs.Nodes.{rows_numbered}
@@ -17,7 +17,8 @@ use Rattle.fb_find_demands.specs.declared.numbered.Numbering.{Numbering}
 use Rattle.fb_find_demands.specs.Rights.{numbered, numbers_of}
 use Rattle.fb_find_demands.specs.Leaves.{AreClosed}
 use Rattle.fb_find.specs.Given.{nodes_in}
-use Rattle.fb_find.specs.Columns.{asked, IsColumn}
+use Rattle.fb_find.specs.Columns.{IsColumn}
+use Rattle.fb_model.specs.Finding.{asked}
 use Rattle.fb_find.specs.Parts.{events_in, states_in, IsReady}
 
 -- what a column of a device asks is asked whatever algorithms cost

@@ -6,7 +6,7 @@ use Rattle.fb_model.specs.Spelling.{IsWord}
 use Rattle.fb_model.specs.System as book
 use Rattle.fb_model.specs.CertificateText.{names_in}
 use Rattle.fb_model_laws.specs.Words.{IsWordyDevice}
-use Rattle.fb_types.specs.Written.{IsWritten}
+use Rattle.fb_model.specs.Written.{IsWritten}
 use Rattle.fb_verified.proofs.Written.{words}
 use Rattle.fb_flat.proofs.Dotted.{names_back}
 use Rattle.fb_types.specs.declared.typed.Configuration.{Configuration}
@@ -14,10 +14,10 @@ use Rattle.fb_types.specs.declared.typed.Device.{Device}
 use Rattle.fb_types.specs.declared.typed.Resource.{Resource}
 use Rattle.fb_types.specs.Views.{device_of, resource_of, system_of}
 use Rattle.fb_check_rows.proofs.Loops.{any_in}
-use Rattle.fb_find_rows.specs.declared.fault.NoBound.{NoBound}
-use Rattle.fb_find_rows.specs.declared.fault.NoBound.TheVariants.{OutOfMemory, Cycle, NoRange, Limit}
+use Rattle.fb_faults.specs.declared.no_bound.NoBound.{NoBound}
+use Rattle.fb_faults.specs.declared.no_bound.NoBound.TheVariants.{OutOfMemory, Cycle, NoRange, Limit}
 use Rattle.fb_find_rows.specs.Needs.{IsPastFault}
-use Rattle.fb_find.specs.Bounds.{follows_many, IsNeverBound}
+use Rattle.fb_model.specs.Finding.{follows_many, IsNeverBound}
 use Rattle.fb_find.specs.Crowds.{IsCrowded}
 use Rattle.fb_lists.proofs.Lists.{all_here}
 use Rattle.fb_find.proofs.Lists.{in_image}

@@ -13,22 +13,22 @@ use Rattle.fb_types_events.proofs.EventTrees.{event_trees, event_source}
 use Rattle.fb_types_events.proofs.Spelled.{event_source_spelled}
 use Rattle.fb_model_laws.specs.Words.{IsCapitalDevice}
 use Rattle.fb_model_laws.proofs.Systems.{capital}
-use Rattle.fb_model_laws.specs.Demands.{Node, IsClosedWalk}
+use Rattle.fb_model.specs.Demands.{Node, IsClosedWalk}
 use Rattle.fb_model_laws.proofs.Walks.{walks_exclude}
 use Rattle.fb_model_laws.proofs.Networks.{networks_exclude}
-use Rattle.fb_find_rows.specs.Places.{node_of}
-use Rattle.fb_types.specs.Written.{IsWritten}
+use Rattle.fb_model.specs.Finding.{node_of}
+use Rattle.fb_model.specs.Written.{IsWritten}
 use Rattle.fb_flat.specs.declared.flat.FlatDevice.{FlatDevice}
 use Rattle.fb_flat.specs.Leaves.{flat_device, written_device}
 use Rattle.fb_verified.proofs.Written.{with_event_trees, words, tables_are as written_tables}
 use Rattle.std.specs.declared.string.String.{String}
 use Rattle.std.specs.declared.alloc.Global.{Global}
 use Rattle.fb_cert.specs.declared.certificate.Certificate.{Certificate}
-use Rattle.fb_model_laws.specs.FinderRanges.{AreFound}
-use Rattle.fb_find_laws.specs.Finding.{AreTaken}
+use Rattle.fb_model.specs.FinderRanges.{AreFound}
+use Rattle.fb_model.specs.Finding.{AreTaken}
 use Rattle.fb_cert.specs.Views.{certificate_of, range_rows, Rows, rows_of}
 use Rattle.fb_find_ranges.specs.AddedRows.{flat_leaves}
-use Rattle.fb_check_ranges.specs.Fitting.{AllClear}
+use Rattle.fb_model.specs.Misfits.{AllClear}
 use Rattle.fb_find_ranges.proofs.Distinct.{on_all_leaves, charges_are_apart, weights_are_apart}
 use Rattle.fb_model.specs.CertificateText.{names_in, place_of}
 use Rattle.fb_find_demands.specs.Ends.{end_of}
@@ -39,12 +39,14 @@ use Rattle.fb_check_rows.specs.Texts.{texts_of}
 use Rattle.fb_check_rows.specs.declared.kind.RowKind.TheVariants.{Charge, Weight}
 use Rattle.fb_check_rows.proofs.Members.{each_gathered}
 use Rattle.fb_check_rows.proofs.Systems.{devices_placed}
-use Rattle.fb_find_rows.specs.declared.fault.NoBound.{NoBound}
-use Rattle.fb_find_rows.specs.declared.fault.NoBound.TheVariants.{OutOfMemory, Cycle, NoRange, Limit}
+use Rattle.fb_faults.specs.declared.no_bound.NoBound.{NoBound}
+use Rattle.fb_faults.specs.declared.no_bound.NoBound.TheVariants.{OutOfMemory, Cycle, NoRange, Limit}
 use Rattle.fb_find_demands.specs.Prices.{AreClear, AreTables, HasClear}
 use Rattle.fb_find.specs.Given.{IsGiven}
-use Rattle.fb_find.specs.Columns.{asked, IsCycle, FulfilsAll}
-use Rattle.fb_find.specs.Bounds.{IsRuledOut, IsNeverBound, IsNoBound, IsNoBoundAt, IsNoBoundWith, IsNoBoundWithin, IsPathWithin, IsUnclearRun, IsWalk}
+use Rattle.fb_find.specs.Columns.{IsCycle, FulfilsAll}
+use Rattle.fb_model.specs.Finding.{asked}
+use Rattle.fb_find.specs.Bounds.{IsNoBoundWithin, IsPathWithin}
+use Rattle.fb_model.specs.Finding.{IsRuledOut, IsNeverBound, IsNoBound, IsNoBoundAt, IsNoBoundWith, IsUnclearRun, IsWalk}
 use Rattle.fb_find.specs.Parts.{HasNumbering, HasRanges, HasTables, HaveTables, IsReady, table_in}
 use Rattle.fb_find.proofs.Lists.{zip_length}
 use Rattle.fb_find.proofs.Tabled.{tables_are}

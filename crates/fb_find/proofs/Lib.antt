@@ -10,3 +10,4 @@ mod Making
 mod Given
 mod Tabled
 pub mod Taking
+pub mod Promised

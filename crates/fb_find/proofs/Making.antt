@@ -14,11 +14,12 @@ use Rattle.fb_model.specs.Certificates as certs
 use Rattle.fb_model.specs.Certificates.{all_leaves, AllRows, Certificate, PlaceRows, Range_rows, Charge_rows, Weight_rows, Far_rows, Far_state_rows, channels_of, event_places, far_of, given, places_of, range_places, required, Row, state_places, steps_of, with_repeats}
 use Rattle.fb_model.specs.CertificateText.{IsTold, most_places, most_steps, names_in, place_of}
 use Rattle.fb_model.proofs.Lists.{all_both}
-use Rattle.fb_model_laws.specs.Demands.{Demand, Node, state, event, channel}
-use Rattle.fb_model_laws.specs.Columns.{demands, network_demands, MeetAll, number_of}
+use Rattle.fb_model.specs.Demands.{Demand, Node, state, event, channel}
+use Rattle.fb_model.specs.Columns.{demands, network_demands, MeetAll, number_of}
 use Rattle.fb_find_laws.specs.Numbered.{AreLeast, AreOf}
 use Rattle.fb_find_laws.specs.Nodes.{nodes_of, number}
-use Rattle.fb_find_laws.specs.Finding.{HasFarNumbers, HasNumbers, IsInOrder, IsMadeWith, row_number}
+use Rattle.fb_find_laws.specs.Finding.{HasFarNumbers, HasNumbers, IsMadeWith, row_number}
+use Rattle.fb_model.specs.Finding.{IsInOrder}
 use Rattle.fb_find_laws.proofs.Fitting.{no_amount}
 use Rattle.fb_find_laws.proofs.Members.{in_rows}
 use Rattle.fb_find_laws.proofs.Rows.{far_numbers_are, least_of_fewer, least_same, numbers_are}
@@ -28,7 +29,7 @@ use Rattle.fb_cert.specs.Adding.{is_upper_path}
 use Rattle.fb_cert.specs.Views.{book_of, channel_rows, depth_rows, far_rows, Rows, Table}
 use Rattle.fb_flat.specs.declared.flat.FlatDevice.{FlatDevice}
 use Rattle.fb_flat.specs.declared.flat.FlatResource.{FlatResource}
-use Rattle.fb_check_ranges.specs.Fitting.{AllClear}
+use Rattle.fb_model.specs.Misfits.{AllClear}
 use Rattle.fb_check_rows.specs.Faults.{HasNoRowTwice}
 use Rattle.fb_check_rows.specs.Texts.{resource_texts as row_texts, texts_of}
 use Rattle.fb_check_rows.specs.declared.kind.RowKind.TheVariants.{Depth}
@@ -37,20 +38,22 @@ use Rattle.fb_check_rows.proofs.Spelled.{spelled}
 use Rattle.fb_check_rows.proofs.Systems.{devices_named}
 use Rattle.fb_find_ranges.proofs.Capitals.{rows_have_capitals}
 use Rattle.fb_find_ranges.proofs.Distinct.{resources_are_apart}
-use Rattle.fb_check_rows.specs.Depths.{begins_of}
-use Rattle.fb_find_rows.specs.declared.fault.NoBound.{NoBound}
-use Rattle.fb_find_rows.specs.declared.fault.NoBound.TheVariants.{OutOfMemory, Cycle, NoRange, Limit}
+use Rattle.fb_model.specs.Finding.{begins_of}
+use Rattle.fb_faults.specs.declared.no_bound.NoBound.{NoBound}
+use Rattle.fb_faults.specs.declared.no_bound.NoBound.TheVariants.{OutOfMemory, Cycle, NoRange, Limit}
 use Rattle.fb_find_rows.specs.Numbers.{counts}
 use Rattle.fb_find_rows.proofs.Telling.{far_told, places_told, steps_told}
 use Rattle.fb_find_rows.specs.Needs as queues
-use Rattle.fb_find_rows.specs.Needs.{all_rows, AreFresh, arrival_of, IsPastAmong, IsPastIn, most_arrival, most_at, needed_depth, resource_texts, with_more}
+use Rattle.fb_find_rows.specs.Needs.{all_rows, AreFresh, resource_texts, with_more}
+use Rattle.fb_model.specs.Finding.{arrival_of, IsPastAmong, IsPastIn, most_arrival, most_at, needed_depth}
 use Rattle.fb_find_rows.proofs.Deep.{needed_depths, paths_all}
 use Rattle.fb_find_demands.specs.declared.numbered.Numbering.{Numbering}
 use Rattle.fb_find_demands.specs.Rights.{numbers_of}
 use Rattle.fb_find.specs.Given.{nodes_in}
 use Rattle.fb_find.specs.Columns as columns
 use Rattle.fb_find.specs.Columns.{AreSmallest}
-use Rattle.fb_find.specs.Bounds.{needs_depth, needs_far, needs_places, needs_steps, IsFarFault, IsNoBoundAt}
+use Rattle.fb_find.specs.Bounds.{IsFarFault}
+use Rattle.fb_model.specs.Finding.{needs_depth, needs_far, needs_places, needs_steps, IsNoBoundAt}
 use Rattle.fb_find.specs.Networks.{behind_events, behind_states, HasNetwork, HasNoNetwork}
 use Rattle.fb_find.specs.Parts.{events_in, HasRanges, IsReady, states_in, with_columns}
 use Rattle.fb_find.proofs.Adding.{all_listed}

@@ -9,7 +9,7 @@ use Rattle.fb_model.specs.Ranges.{Range}
 use Rattle.fb_model.specs.Certificates.{all_leaves}
 use Rattle.fb_model.specs.CertificateText.{repeats, most_repeats, most_steps}
 use Rattle.fb_model.proofs.Networks.{AreRising, channels_rise}
-use Rattle.fb_model_laws.specs.Columns.{network_demands}
+use Rattle.fb_model.specs.Columns.{network_demands}
 use Rattle.fb_cert.specs.Adding.{is_within, is_sayable}
 use Rattle.fb_cert.specs.Views.{has_row, with_row, Rows}
 use Rattle.fb_flat.specs.declared.flat.FlatDevice.{FlatDevice}

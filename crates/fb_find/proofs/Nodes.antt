@@ -10,21 +10,22 @@ use Rattle.fb_model.specs.Names.{Name, at_place}
 use Rattle.fb_model.specs.System as book
 use Rattle.fb_model.specs.Certificates.{all_leaves}
 use Rattle.fb_model.specs.CertificateText.{place_of}
-use Rattle.fb_model_laws.specs.Demands.{Node, state, event, channel, Demand, node_in}
+use Rattle.fb_model.specs.Demands.{Node, state, event, channel, Demand, node_in}
 use Rattle.fb_find_graph.specs.Graphs.{IsOrder}
 use Rattle.fb_find_graph.specs.Systems.{System, IsSystem, IsLeast, IsPaying, needed, needs}
 use Rattle.fb_find_graph.proofs.Solving.{walk_of}
 use Rattle.fb_find_laws.specs.Numbered.{AreNumbers, AreOf, SaysSame}
 use Rattle.fb_find_laws.proofs.Numbering.{walk_nodes}
 use Rattle.fb_find_laws.proofs.Paying.{numbered_pays, numbered_network_pays}
-use Rattle.fb_find_laws.specs.Nodes.{Numbered, by_number, nodes_of, AreGrouped, IsFirstWalk}
+use Rattle.fb_find_laws.specs.Nodes.{Numbered, by_number, nodes_of, AreGrouped}
+use Rattle.fb_model.specs.Finding.{IsFirstWalk}
 use Rattle.fb_find_laws.proofs.Firsts.{begins_first, begins_in_order}
 use Rattle.fb_find_laws.proofs.Nodes.{rows_numbered}
 use Rattle.fb_find_laws.proofs.Laws.{of_nodes, network_nodes, small_least, great_needed}
 use Rattle.fb_find_laws.proofs.Bare.{bare_same, network_same}
 use Rattle.fb_find_laws.proofs.Orders.{order_serves_less, known_terms}
-use Rattle.fb_find_rows.specs.declared.fault.NoBound.{NoBound}
-use Rattle.fb_find_rows.specs.declared.fault.NoBound.TheVariants.{OutOfMemory, Cycle, NoRange, Limit}
+use Rattle.fb_faults.specs.declared.no_bound.NoBound.{NoBound}
+use Rattle.fb_faults.specs.declared.no_bound.NoBound.TheVariants.{OutOfMemory, Cycle, NoRange, Limit}
 use Rattle.fb_find_rows.specs.Faults.{IsWalk, IsPastLimit, IsResourceIn}
 use Rattle.fb_find_rows.specs.Places.{text_at}
 use Rattle.fb_find_rows.proofs.Walks.{all_known}
@@ -33,7 +34,8 @@ use Rattle.fb_flat.specs.declared.flat.FlatDevice.{FlatDevice}
 use Rattle.fb_find_demands.specs.declared.numbered.Numbering.{Numbering}
 use Rattle.fb_find_demands.specs.Rights.{numbers_of, numbered}
 use Rattle.fb_find.specs.Given.{nodes_in, IsNumbered}
-use Rattle.fb_find.specs.Columns.{asked, FulfilsAll, IsColumn, AreSmallest, IsPastFault, IsCycle}
+use Rattle.fb_find.specs.Columns.{FulfilsAll, IsColumn, AreSmallest, IsPastFault, IsCycle}
+use Rattle.fb_model.specs.Finding.{asked}
 
 -- how many nodes there are
 pub count_is : (ts us : List Name) (cs : List ℕ) → length (nodes_of ts us cs) ≡ length ts + (length us + length cs)

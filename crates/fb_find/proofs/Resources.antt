@@ -9,7 +9,7 @@ use Rattle.fb_model.specs.Wires.{Leaf}
 use Rattle.fb_model.specs.Certificates.{all_leaves, channel_in, channels_of, with_number, with_repeats}
 use Rattle.fb_model.specs.CertificateText.{names_in, place_of}
 use Rattle.fb_model.proofs.Networks.{among_with, number_turned}
-use Rattle.fb_model_laws.specs.Demands.{Demand, Node, state, event, channel, node_in}
+use Rattle.fb_model.specs.Demands.{Demand, Node, state, event, channel, node_in}
 use Rattle.fb_find_laws.specs.Numbered.{AreNumbers}
 use Rattle.fb_find_laws.specs.Nodes.{number, nodes_of}
 use Rattle.fb_find_laws.proofs.Nodes.{place_names}
@@ -24,7 +24,7 @@ use Rattle.fb_find_demands.specs.declared.numbered.Numbering.{Numbering}
 use Rattle.fb_find_demands.specs.Rights.{numbers_of}
 use Rattle.fb_find.specs.Given.{nodes_in}
 use Rattle.fb_find.specs.Columns.{IsPast, text_of}
-use Rattle.fb_find.specs.Bounds.{IsGreat, IsResourceOf}
+use Rattle.fb_model.specs.Finding.{IsGreat, IsResourceOf}
 use Rattle.fb_find.specs.Parts.{events_in, states_in, IsReady}
 use Rattle.fb_find.proofs.Columns.{nodes_have}
 

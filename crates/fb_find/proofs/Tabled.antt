@@ -11,7 +11,7 @@ use Rattle.fb_model.specs.Certificates.{all_leaves}
 use Rattle.fb_model.specs.CertificateText.{names_in}
 use Rattle.fb_model.proofs.Lists.{all_weaker}
 use Rattle.fb_model_laws.specs.Words.{declared_names, IsWordyDevice, IsWordyLeaf}
-use Rattle.fb_model_laws.specs.FinderRanges.{IsTable}
+use Rattle.fb_model.specs.FinderRanges.{IsTable}
 use Rattle.fb_cert.specs.declared.certificate.Certificate.{Certificate}
 use Rattle.fb_cert.specs.Views.{certificate_of}
 use Rattle.fb_flat.specs.declared.flat.Leaf.{Leaf}

@@ -8,14 +8,15 @@ use Rattle.fb_model.specs.Spans.{Span}
 use Rattle.fb_model.specs.Clear.{Spans}
 use Rattle.fb_model.specs.Ranges.{Range, rows, variables}
 use Rattle.fb_model.specs.Certificates.{Certificate, is_boolean, of_kind, range_places, ranged, ranged_variables}
-use Rattle.fb_model_laws.specs.FinderRanges.{IsTable, kind_rows, leaf_rows, range_row, rows_by}
+use Rattle.fb_model.specs.FinderRanges.{IsTable, kind_rows, leaf_rows, range_row, rows_by}
 use Rattle.fb_model_laws.proofs.Places.{variables_join}
 use Rattle.fb_cert.specs.Views.{book_of, range_rows, Rows}
-use Rattle.fb_find_laws.specs.Finding.{AreTaken, IsFoundWith, IsFoundWithin}
-use Rattle.fb_find_rows.specs.declared.fault.NoBound.{NoBound}
-use Rattle.fb_find_rows.specs.declared.fault.NoBound.TheVariants.{OutOfMemory, Cycle, NoRange, Limit}
+use Rattle.fb_model.specs.Finding.{AreTaken, IsFoundWith, IsFoundWithin}
+use Rattle.fb_faults.specs.declared.no_bound.NoBound.{NoBound}
+use Rattle.fb_faults.specs.declared.no_bound.NoBound.TheVariants.{OutOfMemory, Cycle, NoRange, Limit}
 use Rattle.fb_find_ranges.specs.Found.{spelled}
-use Rattle.fb_find.specs.Bounds.{IsAboveWith, follows_many, needs_depth, needs_far, needs_places, needs_steps, IsNeverBound, IsNoBound, IsNoBoundAt, IsNoBoundWithin, IsStrayFault}
+use Rattle.fb_find.specs.Bounds.{IsNoBoundWithin, IsStrayFault}
+use Rattle.fb_model.specs.Finding.{IsAboveWith, follows_many, needs_depth, needs_far, needs_places, needs_steps, IsNeverBound, IsNoBound, IsNoBoundAt}
 
 -- ---- places of rows
 

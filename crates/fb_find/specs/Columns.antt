@@ -1,17 +1,19 @@
 -- Columns of numbers, and why there is none.
-use Rattle.std.specs.Prelude.{ℕ, ◌≡◌, ◌≤◌, ◌<◌, List, Option, None, Some, length, map, slice_index, string_bytes}
+use Rattle.std.specs.Prelude.{ℕ, ◌≡◌, ◌≤◌, ◌<◌, List, Option, length, map, slice_index, string_bytes}
 use Rattle.std.specs.List.{All, Contains}
 use Rattle.fb_model.specs.System as book
 use Rattle.fb_model.specs.Certificates.{all_leaves}
-use Rattle.fb_model_laws.specs.Demands.{Node, Demand, bare_demands, bare_network}
-use Rattle.fb_model_laws.specs.Columns.{MeetAll}
+use Rattle.fb_model.specs.Demands.{Node, Demand}
+use Rattle.fb_model.specs.Columns.{MeetAll}
 use Rattle.fb_find_graph.specs.Graphs.{IsOrder}
 use Rattle.fb_find_graph.specs.Systems.{System, needs}
 use Rattle.fb_find_laws.specs.Numbered.{AreLeast, AreNumbers, AreOf}
-use Rattle.fb_find_laws.specs.Nodes.{Numbered, AreGrouped, AskForAll, IsFirstWalk}
-use Rattle.fb_find_rows.specs.declared.fault.NoBound.{NoBound}
-use Rattle.fb_find_rows.specs.declared.fault.NoBound.TheVariants.{OutOfMemory, Cycle, NoRange, Limit}
-use Rattle.fb_find_rows.specs.Places.{node_of, text_at}
+use Rattle.fb_find_laws.specs.Nodes.{Numbered, AreGrouped, AskForAll}
+use Rattle.fb_model.specs.Finding.{IsFirstWalk, asked}
+use Rattle.fb_faults.specs.declared.no_bound.NoBound.{NoBound}
+use Rattle.fb_faults.specs.declared.no_bound.NoBound.TheVariants.{OutOfMemory, Cycle, NoRange, Limit}
+use Rattle.fb_find_rows.specs.Places.{text_at}
+use Rattle.fb_model.specs.Finding.{node_of}
 use Rattle.fb_find_rows.specs.Faults.{IsResourceIn}
 use Rattle.fb_model.specs.Names.{Name}
 use Rattle.fb_types_blocks.specs.Views.{names_of}
@@ -22,11 +24,6 @@ use Rattle.fb_find.specs.Given.{nodes_in}
 -- an order serves the demands: in it each place stands after all that they ask of it
 abbrev pub Fulfils : Numbering → List Demand → List ℕ → Type 0
 Fulfils n ds order = (system : System) → AreGrouped (length (nodes_in n)) (numbered n ds) system → length system ≡ length (nodes_in n) → IsOrder (needs system) order
-
--- what a system asks whatever algorithms cost: of each device alone, or of the network where datagrams are followed
-abbrev pub asked : Option ℕ → book.System → List Demand
-asked None s = bare_demands (all_leaves s.devices)
-asked (Some r) s = bare_network (all_leaves s.devices)
 
 -- it serves those of every column of a system, none of which asks for more
 abbrev pub FulfilsAll : Option ℕ → Numbering → book.System → List ℕ → Type 0

@@ -6,7 +6,7 @@ use Rattle.fb_model.specs.NetworkTyping.{ElaboratesWith}
 use Rattle.fb_model.specs.System.{System}
 use Rattle.fb_model.specs.Certificates.{all_leaves, FollowsFew}
 use Rattle.fb_model_laws.specs.Words.{IsWordyDevice, IsCapitalDevice}
-use Rattle.fb_model_laws.specs.Demands.{Node}
+use Rattle.fb_model.specs.Demands.{Node}
 use Rattle.fb_find_laws.specs.Nodes.{nodes_of, AreInOrder, AreRowsOf}
 use Rattle.fb_types_blocks.specs.Views.{names_of}
 use Rattle.fb_flat.specs.declared.flat.FlatDevice.{FlatDevice}

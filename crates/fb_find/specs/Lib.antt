@@ -4,3 +4,4 @@ pub mod Bounds
 pub mod Parts
 pub mod Crowds
 pub mod Networks
+pub mod Answers

@@ -6,7 +6,7 @@ use Rattle.fb_model.specs.System.{System}
 use Rattle.fb_model.specs.Certificates.{all_leaves}
 use Rattle.fb_model.specs.CertificateText.{most_steps}
 use Rattle.fb_cert.specs.Views.{Rows}
-use Rattle.fb_model_laws.specs.Columns.{network_demands}
+use Rattle.fb_model.specs.Columns.{network_demands}
 use Rattle.fb_find_demands.specs.declared.numbered.Numbering.{Numbering}
 use Rattle.fb_find_rows.specs.Numbers.{counts, CanBeCounted, ChannelsCanBeCounted, with_channels, with_far_states, with_fars}
 use Rattle.fb_find.specs.Columns.{AreSmallest}

@@ -12,11 +12,11 @@ use Rattle.fb_flat.specs.declared.flat.Leaf.{Leaf}
 use Rattle.fb_flat.specs.Leaves.{kind_of}
 use Rattle.fb_check_ranges.specs.Rows.{numbers_in, rows_in}
 use Rattle.fb_flat.specs.declared.flat.FlatDevice.{FlatDevice}
-use Rattle.fb_check_ranges.specs.declared.fault.Unclear.{Unclear}
-use Rattle.fb_check_ranges.specs.declared.fault.Unclear.TheVariants as unclear
-use Rattle.fb_check_ranges.specs.Fitting.{AllClear}
-use Rattle.fb_find_rows.specs.declared.fault.NoBound.{NoBound}
-use Rattle.fb_find_rows.specs.declared.fault.NoBound.TheVariants.{OutOfMemory, NoRange}
+use Rattle.fb_faults.specs.declared.unclear.Unclear.{Unclear}
+use Rattle.fb_faults.specs.declared.unclear.Unclear.TheVariants as unclear
+use Rattle.fb_model.specs.Misfits.{AllClear}
+use Rattle.fb_faults.specs.declared.no_bound.NoBound.{NoBound}
+use Rattle.fb_faults.specs.declared.no_bound.NoBound.TheVariants.{OutOfMemory, NoRange}
 use Rattle.fb_find_demands.specs.declared.numbered.Numbering.{Numbering}
 use Rattle.fb_types_blocks.specs.Views.{names_of}
 use Rattle.fb_check_rows.specs.Texts.{texts_of}

@@ -6,13 +6,14 @@ ghost use Rattle.fb_model.specs.Certificates.{all_leaves};
 ghost use Rattle.fb_cert.specs.Views.{no_rows, rows_of};
 ghost use Rattle.fb_ranges.specs.Views.{spans_of};
 ghost use Rattle.fb_find_ranges.specs.Found.{spelled};
-ghost use Rattle.fb_find.specs.Bounds.{IsNoBoundAt};
+ghost use Rattle.fb_model.specs.Finding.{IsNoBoundAt};
 ghost use Rattle.fb_find.specs.Parts.{HasRanges, HaveTables, told_of};
 
 use fb_cert::Certificate;
-use fb_check_ranges::{Unclear, rows_clear};
+use fb_faults::Unclear;
+use fb_check_ranges::rows_clear;
 use fb_find_ranges::add_ranges;
-use fb_find_rows::NoBound;
+use fb_faults::NoBound;
 use fb_flat::Flat;
 use fb_ranges::Ranges;
 use std::alloc::Global;

@@ -4,17 +4,17 @@ ghost use Rattle.std.specs.Prelude.{◌≡◌, ◌≤◌, ℕ, Option, map, stri
 ghost use Rattle.std.specs.List.{AllByRecursion, Any};
 ghost use Rattle.fb_model.specs.Certificates.{FollowsFew};
 ghost use Rattle.fb_model.specs.Wires.{most_followed, resource_count};
-ghost use Rattle.fb_types.specs.Written.{IsWritten};
+ghost use Rattle.fb_model.specs.Written.{IsWritten};
 ghost use Rattle.fb_flat.specs.Leaves.{flat_device, written_device};
 ghost use Rattle.fb_types.specs.Views.{system_of, resource_of, device_of};
 ghost use Rattle.fb_find_rows.specs.Needs.{IsPastFault};
-ghost use Rattle.fb_find.specs.Bounds.{IsNeverBound};
+ghost use Rattle.fb_model.specs.Finding.{IsNeverBound};
 ghost use Rattle.fb_find.specs.Crowds.{IsCrowded};
 
-use fb_find_rows::NoBound;
+use fb_faults::NoBound;
 use fb_flat::{Flat, flatten, flatten_resource, joined};
 use fb_types::{Configuration, Device, Resource, Typed};
-use fb_types_blocks::TypeFault;
+use fb_faults::TypeFault;
 use std::alloc::Global;
 
 // Whether a resource follows few connections.

@@ -4,14 +4,19 @@ ghost use Rattle.std.specs.Prelude.{◌≡◌, ◌≤◌, map, IfErr, IfOk, IfSo
 ghost use Rattle.fb_model.specs.System.{System};
 ghost use Rattle.fb_model.specs.Certificates as book;
 ghost use Rattle.fb_model.specs.Certificates.{all_leaves, Fits};
+ghost use Rattle.fb_model.specs.FinderRanges.{AreFound};
+ghost use Rattle.fb_model.specs.Finding.{FailsFound};
+ghost use Rattle.fb_model.specs.Promises.{FindsLeast};
+ghost use Rattle.fb_find.specs.Answers.{found_of};
 ghost use Rattle.fb_cert.specs.Views.{certificate_of};
 ghost use Rattle.fb_types.specs.Views.{system_of};
 ghost use Rattle.fb_ranges.specs.Views.{spans_of};
-ghost use Rattle.fb_find_laws.specs.Finding.{IsFound, IsFoundWith, IsMadeWith};
+ghost use Rattle.fb_find_laws.specs.Finding.{IsMadeWith};
+ghost use Rattle.fb_model.specs.Finding.{IsFound, IsFoundWith};
 ghost use Rattle.fb_find_ranges.specs.Found.{spelled};
 ghost use Rattle.fb_find.specs.Given.{IsGiven};
 ghost use Rattle.fb_find.specs.Parts.{events_in, states_in, HasNumbering, HaveTables, IsReady};
-ghost use Rattle.fb_find.specs.Bounds.{IsNoBound, IsNoBoundAt, IsWalk, IsRuledOut};
+ghost use Rattle.fb_model.specs.Finding.{IsNoBound, IsNoBoundAt, IsWalk, IsRuledOut};
 
 use crate::clear::with_ranges;
 use crate::crowded::leaves;
@@ -21,7 +26,7 @@ use crate::table::tables_in;
 use fb_cert::Certificate;
 use fb_find_demands::{Numbering, numbering};
 use fb_find_ranges::tables;
-use fb_find_rows::NoBound;
+use fb_faults::NoBound;
 use fb_flat::Flat;
 use fb_ranges::Ranges;
 use fb_types::Typed;
@@ -96,16 +101,8 @@ fn found(alloc: Global, flat: &Flat, repeats: Option<u8>) -> Result<Certificate,
     with_tables(alloc, flat, repeats, tables.as_slice())
 }
 
-/// The certificate of a system. Its ranges are those of the finder's rounds, and every other number is the least of all certificates with these
-/// ranges that fit; a depth is at least 1. Its rows stand kind by kind, each kind in text order: leaf by leaf, or resource by resource.
-///
-/// With `repeats`, 1 or more, it also bounds what one event causes on all devices, where each datagram is delivered at most so often to a device: its rows
-/// `FAR`, `FARSTATE` and `CHANNEL`, these upwards, are each the least of all certificates with these ranges and this `REPEATS` that fit.
-///
-/// Refused with `Cycle` only where the places are a closed walk of demands, with `repeats` of those of the network, from that of them on whose row comes first,
-/// channels last, so that no certificate fits, or none with a row `REPEATS`; with `NoRange` only where that algorithm or guard is not clear under these
-/// ranges; with `Limit` only where a least number of the resource, or of a channel that ends there, or the connections that it follows, are above their limit.
-pub fn find(alloc: Global, typed: &Typed, repeats: Option<u8>) -> Result<Certificate, NoBound>
+// The certificate of a system, or why there is none, case by case.
+fn sought(alloc: Global, typed: &Typed, repeats: Option<u8>) -> Result<Certificate, NoBound>
     requires { IfSome repeats (λ r. 1 ≤ r) }
     ensures found { IfOk result (λ c. IsFound repeats (system_of typed.now) (certificate_of c)) }
     ensures refused { IfErr result (IsNoBound repeats (system_of typed.now)) }
@@ -123,4 +120,23 @@ pub fn find(alloc: Global, typed: &Typed, repeats: Option<u8>) -> Result<Certifi
             Err(fault)
         }
     }
+}
+
+/// The certificate of a system. Its ranges are those of the finder's rounds, and every other number is the least of all certificates with these
+/// ranges that fit; a depth is at least 1. Its rows stand kind by kind, each kind in text order: leaf by leaf, or resource by resource.
+///
+/// With `repeats`, 1 or more, it also bounds what one event causes on all devices, where each datagram is delivered at most so often to a device: its rows
+/// `FAR`, `FARSTATE` and `CHANNEL`, these upwards, are each the least of all certificates with these ranges and this `REPEATS` that fit.
+///
+/// Refused with `Cycle` only where the places are a closed walk of demands, with `repeats` of those of the network, from that of them on whose row comes first,
+/// channels last, so that no certificate fits, or none with a row `REPEATS`; with `NoRange` only where that algorithm or guard is not clear under these
+/// ranges; with `Limit` only where a least number of the resource, or of a channel that ends there, or the connections that it follows, are above their limit.
+pub fn find(alloc: Global, typed: &Typed, repeats: Option<u8>) -> Result<Certificate, NoBound>
+    requires { IfSome repeats (λ r. 1 ≤ r) }
+    ensures least { FindsLeast (AreFound (system_of typed.now).devices) (FailsFound (system_of typed.now)) repeats (system_of typed.now) (found_of result) }
+    ensures found { IfOk result (λ c. IsFound repeats (system_of typed.now) (certificate_of c)) }
+    ensures refused { IfErr result (IsNoBound repeats (system_of typed.now)) }
+    ensures denies { IfErr result (λ f. IsWalk f → (cert : book.Certificate) → IsRuledOut repeats cert → Fits (system_of typed.now) cert → ⊥) }
+{
+    sought(alloc, typed, repeats)
 }

@@ -6,7 +6,7 @@ ghost use Rattle.fb_model.specs.Ranges.{Range};
 ghost use Rattle.fb_model.specs.Certificates.{all_leaves};
 ghost use Rattle.fb_model.specs.CertificateText.{most_steps};
 ghost use Rattle.fb_cert.specs.Views.{rows_of};
-ghost use Rattle.fb_model_laws.specs.Columns.{network_demands};
+ghost use Rattle.fb_model.specs.Columns.{network_demands};
 ghost use Rattle.fb_ranges.specs.Views.{spans_of};
 ghost use Rattle.fb_find.specs.Columns.{AreSmallest, IsPastFault};
 ghost use Rattle.fb_find.specs.Bounds.{IsFarFault};
@@ -17,7 +17,8 @@ use crate::column;
 use crate::least::{MOST_STEPS, Ordered, behind};
 use fb_cert::{Certificate, Row};
 use fb_find_demands::{Numbering, far_rights};
-use fb_find_rows::{NoBound, add_channels, add_far_states, add_fars};
+use fb_faults::NoBound;
+use fb_find_rows::{add_channels, add_far_states, add_fars};
 use fb_ranges::Ranges;
 use std::alloc::{AllocError, Global};
 

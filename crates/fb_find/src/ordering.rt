@@ -4,10 +4,12 @@ ghost use Rattle.std.specs.Prelude.{◌≡◌, IfErr, IfOk};
 ghost use Rattle.fb_model.specs.System.{System};
 ghost use Rattle.fb_find_demands.specs.Rights.{numbered, rights_of};
 ghost use Rattle.fb_find.specs.Given.{IsNumbered};
-ghost use Rattle.fb_find.specs.Columns.{asked, IsCycle, FulfilsAll};
+ghost use Rattle.fb_find.specs.Columns.{IsCycle, FulfilsAll};
+ghost use Rattle.fb_model.specs.Finding.{asked};
 
 use fb_find_demands::{Numbering, Right, group, network_rights, plain_rights};
-use fb_find_rows::{NoBound, sorted};
+use fb_faults::NoBound;
+use fb_find_rows::sorted;
 use fb_flat::Flat;
 use std::alloc::{AllocError, Global};
 

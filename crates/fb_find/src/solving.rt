@@ -1,12 +1,13 @@
 //! The least numbers of a column.
 
 ghost use Rattle.std.specs.Prelude.{◌≤◌, List, IfErr, IfOk};
-ghost use Rattle.fb_model_laws.specs.Demands.{Demand};
+ghost use Rattle.fb_model.specs.Demands.{Demand};
 ghost use Rattle.fb_find_demands.specs.Rights.{rights_of};
 ghost use Rattle.fb_find.specs.Columns.{AreSmallest, IsColumn, IsPastFault};
 
 use fb_find_demands::{Numbering, Right, group};
-use fb_find_rows::{NoBound, Nodes, solved};
+use fb_faults::NoBound;
+use fb_find_rows::{Nodes, solved};
 use std::alloc::Global;
 
 /// The least numbers that meet the demands of a column, in the order of the nodes' numbers, each within the limit; or the resource of a node whose number is above it.

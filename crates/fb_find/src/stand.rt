@@ -6,7 +6,7 @@ ghost use Rattle.fb_ranges_intervals.specs.Views.{span_of};
 ghost use Rattle.fb_find.specs.Bounds.{IsStrayFault, RowsStand, Stands};
 
 use fb_cert::Certificate;
-use fb_find_rows::NoBound;
+use fb_faults::NoBound;
 use fb_ranges_intervals::Interval;
 use std::alloc::Global;
 

@@ -13,7 +13,7 @@ use Rattle.fb_model.specs.Wires.{Kind, Charted, Serviced}
 use Rattle.fb_model.specs.Charts.{emission}
 use Rattle.fb_model.specs.Certificates.{reached, event_names}
 use Rattle.fb_model_laws.specs.Leaves.{IsListed, IsClosed}
-use Rattle.fb_model_laws.specs.Demands.{Node, Demand, Ground, work, of_kind}
+use Rattle.fb_model.specs.Demands.{Node, Demand, Ground, work, of_kind}
 use Rattle.fb_model_laws.specs.Likeness.{AreLike, LeadAlike, KindLeadsAlike, AreGroundsAlike}
 use Rattle.fb_model_laws.proofs.Likening.{kind_alike}
 use Rattle.fb_find_laws.specs.Nodes.{capped, by_number}

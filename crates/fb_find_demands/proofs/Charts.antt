@@ -12,7 +12,7 @@ use Rattle.fb_model.specs.System as book
 use Rattle.fb_model.specs.Charts.{actions_of, emission}
 use Rattle.fb_model.specs.Certificates.{reached}
 use Rattle.fb_model.proofs.Names.{eq_turned}
-use Rattle.fb_model_laws.specs.Demands.{Node, event, Demand, Ground, emitted, free_demand, of_free}
+use Rattle.fb_model.specs.Demands.{Node, event, Demand, Ground, emitted, free_demand, of_free}
 use Rattle.fb_find_laws.specs.Nodes.{capped, by_number}
 use Rattle.fb_types_blocks.specs.declared.typed.Action.{Action}
 use Rattle.fb_types_blocks.specs.Views.{action_of}

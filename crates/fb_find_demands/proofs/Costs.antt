@@ -15,10 +15,10 @@ use Rattle.fb_model.specs.Clear.{Spans, Found, Clear, found_cost, examined}
 use Rattle.fb_model.specs.Ranges.{Range, rows, cost_of, IsClearAlgorithm}
 use Rattle.fb_model.specs.Certificates.{all_leaves, channels_of}
 use Rattle.fb_model_laws.specs.Leaves.{IsClosed}
-use Rattle.fb_model_laws.specs.Demands.{Demand, of_kind, channel_demands}
-use Rattle.fb_model_laws.specs.Columns.{price_of, demands, network_demands}
+use Rattle.fb_model.specs.Demands.{Demand, of_kind, channel_demands}
+use Rattle.fb_model.specs.Columns.{price_of, demands, network_demands}
 use Rattle.fb_find_laws.specs.Nodes.{by_number, capped}
-use Rattle.fb_model_laws.specs.FinderRanges.{IsTable}
+use Rattle.fb_model.specs.FinderRanges.{IsTable}
 use Rattle.fb_check_rows.proofs.Names.{bytes_turned}
 use Rattle.st_types.specs.CommandViews.{commands_of}
 use Rattle.st_types.specs.declared.whole.Algo.{Algo}

@@ -7,7 +7,7 @@ use Rattle.fb_model.specs.Spelling.{upper}
 use Rattle.fb_model.specs.System as book
 use Rattle.fb_model.specs.Certificates.{Certificate, Fits, all_leaves}
 use Rattle.fb_model_laws.proofs.Closed.{all_charts_closed}
-use Rattle.fb_model_laws.specs.Demands.{Node, Demand, node_in, IsClosedWalk}
+use Rattle.fb_model.specs.Demands.{Node, Demand, node_in, IsClosedWalk}
 use Rattle.fb_model_laws.proofs.Walks.{walks_exclude}
 use Rattle.fb_model_laws.proofs.Networks.{networks_exclude}
 use Rattle.fb_find_graph.specs.declared.system.Alternative.{Alternative}
@@ -21,8 +21,8 @@ use Rattle.fb_find_laws.proofs.Laws.{of_nodes, network_nodes}
 use Rattle.fb_find_laws.proofs.Bare.{bare_same, network_same}
 use Rattle.fb_find_laws.proofs.Orders.{known_terms}
 use Rattle.fb_types_events.proofs.EventTrees.{event_trees}
-use Rattle.fb_find_rows.specs.declared.place.Place.{Place}
-use Rattle.fb_find_rows.specs.declared.place.Place.TheVariants.{State, Event, Channel}
+use Rattle.fb_faults.specs.declared.place.Place.{Place}
+use Rattle.fb_faults.specs.declared.place.Place.TheVariants.{State, Event, Channel}
 use Rattle.fb_find_demands.specs.Leaves.{AreClosed}
 use Rattle.fb_types_blocks.specs.Views.{names_of}
 use Rattle.fb_flat.specs.declared.flat.FlatDevice.{FlatDevice}

@@ -15,7 +15,7 @@ use Rattle.fb_model.specs.Charts.{is_open}
 use Rattle.fb_model.specs.Certificates.{event_names}
 use Rattle.fb_model.proofs.Lists.{same_name}
 use Rattle.fb_model.proofs.Placed.{name_same}
-use Rattle.fb_model_laws.specs.Demands.{Node, event, state, Ground, crossing_demand, of_crossing, of_input, of_least}
+use Rattle.fb_model.specs.Demands.{Node, event, state, Ground, crossing_demand, of_crossing, of_input, of_least}
 use Rattle.fb_find_laws.specs.Nodes.{by_number, index_in}
 use Rattle.fb_types_networks.proofs.Places.{place}
 use Rattle.fb_types_blocks.specs.declared.typed.Action.{Action}

@@ -12,8 +12,8 @@ use Rattle.fb_model.specs.Ranges.{Range, rows}
 use Rattle.fb_model.specs.Certificates.{all_leaves, admissions, channels_of}
 use Rattle.fb_model.proofs.Lists.{all_append}
 use Rattle.fb_model_laws.specs.Leaves.{IsClosed}
-use Rattle.fb_model_laws.specs.Demands.{event, channel, of_kind, linked, heard, of_channel, channel_demands, bare, bare_demands, bare_network}
-use Rattle.fb_model_laws.specs.Columns.{price_of, demands}
+use Rattle.fb_model.specs.Demands.{event, channel, of_kind, linked, heard, of_channel, channel_demands, bare, bare_demands, bare_network}
+use Rattle.fb_model.specs.Columns.{price_of, demands}
 use Rattle.fb_find_laws.specs.Nodes.{by_number}
 use Rattle.fb_flat.specs.declared.flat.Leaf.{Leaf}
 use Rattle.fb_flat.specs.declared.flat.FlatResource.{FlatResource}

@@ -8,7 +8,7 @@ use Rattle.std.proofs.lemmas.List.Elements.{Contains-append_left, Contains-appen
 use Rattle.fb_model.specs.Names.{Name, Place, at_place}
 use Rattle.fb_model.specs.CertificateText.{place_of}
 use Rattle.fb_model.proofs.Lists.{same_name}
-use Rattle.fb_model_laws.specs.Demands.{Node, state, event, channel, Demand, node_in, IsClosedWalk}
+use Rattle.fb_model.specs.Demands.{Node, state, event, channel, Demand, node_in, IsClosedWalk}
 use Rattle.fb_find_graph.specs.Systems.{System, IsSystem}
 use Rattle.fb_find_graph.specs.Systems as numbered
 use Rattle.fb_find_laws.specs.Numbered.{AreNumbers, AreOf, SaysSame}

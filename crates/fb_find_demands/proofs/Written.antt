@@ -10,7 +10,7 @@ use Rattle.fb_types_events.proofs.Declared.{trees_declare}
 use Rattle.fb_types_events.proofs.Spelled.{event_source_spelled}
 use Rattle.fb_model_laws.specs.Words.{IsWordyDevice}
 use Rattle.fb_model_laws.proofs.Systems.{wordy}
-use Rattle.fb_types.specs.Written.{IsWritten}
+use Rattle.fb_model.specs.Written.{IsWritten}
 use Rattle.fb_types.proofs.Beforehand.{elaborated_with}
 use Rattle.fb_flat.specs.declared.flat.FlatDevice.{FlatDevice}
 use Rattle.fb_flat.specs.Tables.{AreDevices}

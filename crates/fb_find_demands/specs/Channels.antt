@@ -6,7 +6,7 @@ use Rattle.fb_model.specs.Names.{at_place}
 use Rattle.fb_model.specs.CertificateText.{names_in}
 use Rattle.fb_model.specs.Services.{arrive}
 use Rattle.fb_model.specs.Certificates.{admissions}
-use Rattle.fb_model_laws.specs.Demands.{Node, event, channel, Demand}
+use Rattle.fb_model.specs.Demands.{Node, event, channel, Demand}
 use Rattle.fb_flat.specs.declared.flat.Leaf.{Leaf}
 use Rattle.fb_flat.specs.Leaves.{kind_of}
 

@@ -3,7 +3,7 @@ use Rattle.std.specs.Prelude.{ℕ, ◌==◌, ◌*◌, Bool, true, List, [], ◌�
 use Rattle.std.specs.Option.{option_map}
 use Rattle.fb_model.specs.Names.{Name}
 use Rattle.fb_model.specs.System as book
-use Rattle.fb_model_laws.specs.Demands.{Node, state, event, Ground, of_least}
+use Rattle.fb_model.specs.Demands.{Node, state, event, Ground, of_least}
 use Rattle.fb_find_laws.specs.Nodes.{Numbered, by_number, capped, index_in}
 use Rattle.fb_find_demands.specs.declared.crossings.Crossing.{Crossing}
 

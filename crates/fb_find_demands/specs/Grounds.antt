@@ -10,7 +10,7 @@ use Rattle.indexmap.specs.IndexMap.{IndexMap}
 use Rattle.fb_model.specs.Names.{Name, at_place}
 use Rattle.fb_model.specs.System as book
 use Rattle.fb_model.specs.CertificateText.{names_in}
-use Rattle.fb_model_laws.specs.Demands.{Node, channel, Ground}
+use Rattle.fb_model.specs.Demands.{Node, channel, Ground}
 use Rattle.fb_flat.specs.Tables.{targets_of}
 use Rattle.fb_flat.specs.declared.flat.Output.{Output}
 use Rattle.fb_flat.specs.declared.flat.Leaf.{Leaf}

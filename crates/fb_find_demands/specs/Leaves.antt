@@ -6,7 +6,7 @@ use Rattle.fb_model.specs.System as book
 use Rattle.fb_model.specs.Wires as wires
 use Rattle.fb_model.specs.Wires.{leaves}
 use Rattle.fb_model_laws.specs.Leaves.{IsClosed}
-use Rattle.fb_model_laws.specs.Demands.{of_kind}
+use Rattle.fb_model.specs.Demands.{of_kind}
 use Rattle.fb_find_laws.specs.Nodes.{Numbered}
 use Rattle.fb_flat.specs.declared.flat.Leaf.{Leaf}
 use Rattle.fb_flat.specs.declared.flat.FlatDevice.{FlatDevice}

@@ -10,7 +10,7 @@ use Rattle.fb_model.specs.Wires.{Kind, Charted, Serviced}
 use Rattle.fb_model.specs.Clear.{Spans, examined}
 use Rattle.fb_model.specs.Ranges.{Range, rows, IsClearAlgorithm}
 use Rattle.fb_find_laws.specs.Nodes.{Numbered}
-use Rattle.fb_model_laws.specs.FinderRanges.{IsTable}
+use Rattle.fb_model.specs.FinderRanges.{IsTable}
 use Rattle.fb_types_blocks.specs.Views.{procedures_of}
 use Rattle.fb_ranges.specs.Answers.{most_steps}
 use Rattle.fb_ranges.specs.Views.{spans_of}

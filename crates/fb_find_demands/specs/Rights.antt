@@ -1,7 +1,7 @@
 -- What the code's numbers say.
 use Rattle.std.specs.Prelude.{ℕ, List, map}
 use Rattle.fb_types_blocks.specs.Views.{names_of}
-use Rattle.fb_model_laws.specs.Demands.{Node, Demand}
+use Rattle.fb_model.specs.Demands.{Node, Demand}
 use Rattle.fb_find_laws.specs.Nodes.{number, Numbered, by_number}
 use Rattle.fb_find_demands.specs.declared.numbered.Numbering.{Numbering}
 use Rattle.fb_find_demands.specs.declared.right.Right.{Right}

@@ -5,12 +5,12 @@ use Rattle.fb_model.specs.Spelling.{upper}
 use Rattle.fb_model.specs.System.{System}
 use Rattle.fb_model.specs.Certificates.{all_leaves}
 use Rattle.fb_model.specs.CertificateText.{place_of}
-use Rattle.fb_model_laws.specs.Demands.{Node, state, event, channel, Demand, bare_demands, bare_network}
+use Rattle.fb_model.specs.Demands.{Node, state, event, channel, Demand, bare_demands, bare_network}
 use Rattle.fb_find_laws.specs.Nodes.{written, index_in, rank_in, nodes_of, AreRowsOf}
-use Rattle.fb_find_rows.specs.declared.place.Place.{Place}
-use Rattle.fb_find_rows.specs.declared.place.Place.TheVariants.{State, Event, Channel}
+use Rattle.fb_faults.specs.declared.place.Place.{Place}
+use Rattle.fb_faults.specs.declared.place.Place.TheVariants.{State, Event, Channel}
 use Rattle.fb_types_blocks.specs.Views.{names_of}
-use Rattle.fb_types.specs.Written.{IsWritten}
+use Rattle.fb_model.specs.Written.{IsWritten}
 use Rattle.fb_flat.specs.declared.flat.FlatDevice.{FlatDevice}
 use Rattle.fb_flat.specs.Leaves.{flat_device, written_device}
 use Rattle.fb_find_demands.specs.declared.numbered.Numbering.{Numbering}

@@ -3,7 +3,7 @@ use Rattle.std.specs.Prelude.{◌≡◌, List, map, string_bytes}
 use Rattle.std.specs.declared.string.String.{String}
 use Rattle.std.specs.declared.vec.Vec.{Vec}
 use Rattle.std.specs.declared.alloc.Global.{Global}
-use Rattle.fb_model_laws.specs.Demands.{emitted, work}
+use Rattle.fb_model.specs.Demands.{emitted, work}
 use Rattle.fb_find_laws.specs.Nodes.{capped}
 use Rattle.fb_types_blocks.specs.declared.typed.Action.{Action}
 use Rattle.fb_find_demands.specs.declared.scene.Scene.{Scene}

@@ -2,7 +2,7 @@
 
 ghost use Rattle.std.specs.Prelude.{◌≡◌, ◌++◌, map, string_bytes, IfOk, OnOk};
 ghost use Rattle.std.specs.List.{flat_map};
-ghost use Rattle.fb_model_laws.specs.Demands.{free_demand, of_chart, of_free, of_state};
+ghost use Rattle.fb_model.specs.Demands.{free_demand, of_chart, of_free, of_state};
 ghost use Rattle.fb_types_blocks.specs.Views.{action_of, block_of, states_of, transition_of};
 ghost use Rattle.fb_find_laws.specs.Nodes.{by_number};
 ghost use Rattle.fb_find_demands.specs.Crossed.{state_numbers};

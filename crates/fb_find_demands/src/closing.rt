@@ -4,8 +4,8 @@ ghost use Rattle.std.specs.Prelude.{ℕ, ◌≡◌, ◌≤◌, ◌↔◌, map, N
 ghost use Rattle.std.specs.List.{Any};
 ghost use Rattle.fb_model.specs.System.{System};
 ghost use Rattle.fb_model.specs.Certificates.{Certificate, Fits};
-ghost use Rattle.fb_model_laws.specs.Demands.{IsClosedWalk};
-ghost use Rattle.fb_types_blocks.specs.declared.fault.TypeFault.TheVariants.{OutOfMemory};
+ghost use Rattle.fb_model.specs.Demands.{IsClosedWalk};
+ghost use Rattle.fb_faults.specs.declared.typing.TypeFault.TheVariants.{OutOfMemory};
 ghost use Rattle.fb_types.specs.Views.{system_of};
 ghost use Rattle.fb_flat.specs.Leaves.{IsFull, IsLimitAt};
 ghost use Rattle.fb_find_demands.specs.Rights.{numbered, rights_of};
@@ -14,9 +14,10 @@ ghost use Rattle.fb_find_demands.specs.Shown.{asked, shown_node, AreTables, IsNu
 use crate::walk_numbers::numbers_of;
 use crate::{Numbering, Right, group, network_rights, numbering, plain_rights};
 use fb_find_graph::is_closed_walk;
-use fb_find_rows::Place;
+use fb_faults::Place;
 use fb_flat::{Flat, flatten};
-use fb_types::{TypeFault, Typed};
+use fb_faults::TypeFault;
+use fb_types::Typed;
 use std::alloc::{AllocError, Global};
 
 // What the system asks whatever algorithms cost, where its nodes have these numbers.

@@ -4,7 +4,7 @@ ghost use Rattle.std.specs.Prelude.{◌≡◌, ◌++◌, map, IfOk, OnOk};
 ghost use Rattle.std.specs.List.{flat_map};
 ghost use Rattle.std.specs.Option.{option_map};
 ghost use Rattle.fb_model.specs.Certificates.{event_names};
-ghost use Rattle.fb_model_laws.specs.Demands.{of_input, of_least, state};
+ghost use Rattle.fb_model.specs.Demands.{of_input, of_least, state};
 ghost use Rattle.fb_types_blocks.specs.Views.{block_of, events_of, states_of, transition_of};
 ghost use Rattle.fb_find_laws.specs.Nodes.{by_number, index_in};
 ghost use Rattle.fb_find_demands.specs.Crossed.{crossed, crossing_at, crossing_of, input_rights, is_crossed, state_numbers};

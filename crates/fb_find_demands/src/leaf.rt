@@ -1,7 +1,7 @@
 //! The demands of a leaf.
 
 ghost use Rattle.std.specs.Prelude.{◌≡◌, ◌++◌, OnOk};
-ghost use Rattle.fb_model_laws.specs.Demands.{of_kind};
+ghost use Rattle.fb_model.specs.Demands.{of_kind};
 ghost use Rattle.fb_flat.specs.Leaves.{kind_of};
 ghost use Rattle.fb_find_demands.specs.Grounds.{algorithms_of, leaf_ground, names_among};
 ghost use Rattle.fb_find_demands.specs.Rights.{numbered, rights_of};

@@ -23,7 +23,6 @@ mod walk_numbers;
 
 pub use channel::add_channels;
 pub use closing::check_walk;
-pub use fb_find_rows::Place;
 pub use grouping::group;
 pub use leaf::{Tariff, add_leaf};
 pub use nodes::numbering;

@@ -3,7 +3,7 @@
 ghost use Rattle.std.specs.Prelude.{◌≡◌, ◌==◌, ◌<◌, ◌+◌, ◌^◌, length, slice_index, IfOk};
 ghost use Rattle.fb_model.specs.Names.{at_place};
 ghost use Rattle.fb_model.specs.CertificateText.{names_in};
-ghost use Rattle.fb_model_laws.specs.Demands.{channel, event, state};
+ghost use Rattle.fb_model.specs.Demands.{channel, event, state};
 ghost use Rattle.fb_types_blocks.specs.Views.{names_of};
 ghost use Rattle.fb_find_laws.specs.Nodes.{index_in, rank_in};
 ghost use Rattle.fb_find_demands.specs.Rights.{numbers_of};

@@ -6,7 +6,7 @@ ghost use Rattle.std.specs.Option.{option_map};
 ghost use Rattle.fb_model.specs.System.{System};
 ghost use Rattle.fb_model.specs.Ranges.{Range};
 ghost use Rattle.fb_model.specs.Certificates.{all_leaves, channels_of};
-ghost use Rattle.fb_model_laws.specs.Columns.{demands, network_demands};
+ghost use Rattle.fb_model.specs.Columns.{demands, network_demands};
 ghost use Rattle.fb_flat.specs.Tables.{AreDevices};
 ghost use Rattle.fb_ranges.specs.Views.{spans_of};
 ghost use Rattle.fb_find_demands.specs.Rights.{numbered, rights_of};

@@ -2,7 +2,7 @@
 
 ghost use Rattle.std.specs.Prelude.{◌≡◌, ◌++◌, ◌∷◌, [], ◌+◌, map, IfOk, OnOk};
 ghost use Rattle.fb_model.specs.Certificates.{reached};
-ghost use Rattle.fb_model_laws.specs.Demands.{event, emitted, work};
+ghost use Rattle.fb_model.specs.Demands.{event, emitted, work};
 ghost use Rattle.fb_types_blocks.specs.Views.{action_of};
 ghost use Rattle.fb_flat.specs.Tables.{targets_of, target_place};
 ghost use Rattle.fb_find_laws.specs.Nodes.{capped};

@@ -4,7 +4,7 @@ ghost use Rattle.std.specs.Prelude.{◌≡◌, ◌++◌, [], map, IfOk, OnOk, if
 ghost use Rattle.std.specs.List.{flat_map};
 ghost use Rattle.std.specs.Str.{bytes_eq};
 ghost use Rattle.fb_model.specs.Services.{can_emit, init, service_events};
-ghost use Rattle.fb_model_laws.specs.Demands.{of_dispatch, sending_demand, sent};
+ghost use Rattle.fb_model.specs.Demands.{of_dispatch, sending_demand, sent};
 ghost use Rattle.fb_types_services.specs.Views.{service_of};
 ghost use Rattle.fb_find_laws.specs.Nodes.{by_number};
 ghost use Rattle.fb_find_demands.specs.Grounds.{datagram_of, ground_in};

@@ -2,11 +2,11 @@
 
 ghost use Rattle.std.specs.Prelude.{◌≡◌, map, IfOk};
 ghost use Rattle.fb_model.specs.CertificateText.{place_of};
-ghost use Rattle.fb_model_laws.specs.Demands.{event, state};
+ghost use Rattle.fb_model.specs.Demands.{event, state};
 ghost use Rattle.fb_find_demands.specs.Shown.{shown_node, sought};
 
 use crate::Numbering;
-use fb_find_rows::Place;
+use fb_faults::Place;
 use std::alloc::{AllocError, Global};
 
 // The number of a state by its path; where there is none, the first number that no node has.

@@ -9,7 +9,7 @@ use Rattle.fb_model.specs.Wires.{Kind, Charted, Serviced, Leaf}
 use Rattle.fb_model.specs.Charts.{actions_of, is_open}
 use Rattle.fb_model.specs.Certificates.{event_names, channels_of}
 use Rattle.fb_model.proofs.Lists.{all_append}
-use Rattle.fb_model_laws.specs.Demands.{Node, Demand, Ground, work, of_state, free_demand, of_free, crossing_demand, of_crossing, of_input, of_dispatch, of_kind, linked, of_channel, channel_demands, bare, bare_demands, bare_network}
+use Rattle.fb_model.specs.Demands.{Node, Demand, Ground, work, of_state, free_demand, of_free, crossing_demand, of_crossing, of_input, of_dispatch, of_kind, linked, of_channel, channel_demands, bare, bare_demands, bare_network}
 use Rattle.fb_find_graph.specs.Systems.{System}
 use Rattle.fb_find_laws.specs.Numbered.{AreNumbers, SaysSame, AreOf}
 use Rattle.fb_find_laws.specs.Nodes.{by_number, capped, capped_demand, AreGrouped}

@@ -5,10 +5,11 @@ use Rattle.fb_model.specs.Names.{Name, Place, at_place}
 use Rattle.fb_model.specs.CertificateText.{place_of}
 use Rattle.fb_model.specs.Wires.{Leaf}
 use Rattle.fb_model.specs.Certificates.{state_places, event_places, channels_of, with_repeats}
-use Rattle.fb_model_laws.specs.Demands.{Node, state, event, channel, node_in}
+use Rattle.fb_model.specs.Demands.{Node, state, event, channel, node_in}
 use Rattle.fb_find_graph.specs.Searches.{IsFromLeast}
 use Rattle.fb_find_laws.specs.Numbered.{AreNumbers}
-use Rattle.fb_find_laws.specs.Nodes.{nodes_of, nodes_in_order, AreInOrder, AreRowsOf, BeginsFirst}
+use Rattle.fb_find_laws.specs.Nodes.{nodes_of, AreInOrder, AreRowsOf}
+use Rattle.fb_model.specs.Finding.{nodes_in_order, BeginsFirst}
 
 -- ---- before and after a place
 

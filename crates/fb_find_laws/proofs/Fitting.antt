@@ -12,13 +12,14 @@ use Rattle.fb_model.specs.Ranges.{Range, rows}
 use Rattle.fb_model.specs.Clear.{Spans}
 use Rattle.fb_model.specs.Certificates.{Certificate, Row, FarRow, ChannelRow, amount, far_amount, channel_amount, row_places, far_places, channel_rows, state_places, event_places, channels_of, with_repeats, Charge_rows, Weight_rows, Far_rows, Far_state_rows, Column, steps_of, places_of, far_of, ColumnFits, depth_of, kind_arrivals, is_restart, begin_places, ArrivalsFit, DeviceFits, all_leaves, AllRows, Fits}
 use Rattle.fb_model.proofs.Networks.{is_one as among, number_turned}
-use Rattle.fb_model_laws.specs.Demands.{Node, state, event, channel, Demand, IsMet, of_kind, linked, channel_demands}
-use Rattle.fb_model_laws.specs.Columns.{number_of, ground_of, demands, network_demands, price_of, MeetAll}
+use Rattle.fb_model.specs.Demands.{Node, state, event, channel, Demand, IsMet, of_kind, linked, channel_demands}
+use Rattle.fb_model.specs.Columns.{number_of, ground_of, demands, network_demands, price_of, MeetAll}
 use Rattle.fb_model_laws.proofs.Lists.{all_append}
 use Rattle.fb_model_laws.proofs.Meeting.{column_meets}
 use Rattle.fb_model_laws.proofs.Networks.{far_meets}
 use Rattle.fb_find_laws.specs.Nodes.{nodes_of, AreRowsOf}
-use Rattle.fb_find_laws.specs.Finding.{HaveSameRanges, IsFoundWith, IsNeeded, is_one, for_arrival, for_begins, HasNeededDepths, IsMadeWith}
+use Rattle.fb_find_laws.specs.Finding.{IsNeeded, is_one, for_arrival, for_begins, HasNeededDepths, IsMadeWith}
+use Rattle.fb_model.specs.Finding.{HaveSameRanges, IsFoundWith}
 use Rattle.fb_find_laws.proofs.Members.{state_node, event_node, channel_node}
 
 -- ---- devices one after another

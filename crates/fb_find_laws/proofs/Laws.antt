@@ -9,15 +9,16 @@ use Rattle.fb_model.specs.System as book
 use Rattle.fb_model.specs.Names.{Name, Place, path_eq, place_eq}
 use Rattle.fb_model.proofs.Names.{eq_turned}
 use Rattle.fb_model_laws.proofs.Looking.{path_turned}
-use Rattle.fb_find_laws.specs.Finding.{IsFound, IsFoundWith, IsMade, IsMadeWith}
-use Rattle.fb_model_laws.specs.FinderRanges.{AreFound}
+use Rattle.fb_find_laws.specs.Finding.{IsMade, IsMadeWith}
+use Rattle.fb_model.specs.Finding.{IsFound, IsFoundWith}
+use Rattle.fb_model.specs.FinderRanges.{AreFound}
 use Rattle.fb_find_laws.proofs.Fitting.{made_found}
 use Rattle.fb_model.specs.Ranges.{Range}
 use Rattle.fb_model.specs.Certificates.{all_leaves, Certificate}
 use Rattle.fb_model_laws.proofs.Wired.{all_wired}
 use Rattle.fb_model_laws.proofs.Closed.{all_charts_closed}
-use Rattle.fb_model_laws.specs.Demands.{bare, bare_demands, bare_network, Demand, IsMet, Node}
-use Rattle.fb_model_laws.specs.Columns.{ground_of, demands, network_demands}
+use Rattle.fb_model.specs.Demands.{bare, bare_demands, bare_network, Demand, IsMet, Node}
+use Rattle.fb_model.specs.Columns.{ground_of, demands, network_demands}
 use Rattle.fb_find_graph.specs.Systems.{IsLeast, System}
 use Rattle.fb_find_laws.specs.Numbered.{AreLeast, AreNumbers, AreOf}
 use Rattle.fb_find_laws.proofs.Numbering.{least_nodes}

@@ -16,7 +16,7 @@ use Rattle.std.proofs.lemmas.Bool.{eqb-true}
 use Rattle.fb_model.proofs.Networks.{is_one, among_with, number_same}
 use Rattle.fb_model.proofs.Placed.{path_same, all_left, all_right}
 use Rattle.fb_model_laws.specs.Leaves.{IsClosedBlock, IsClosed}
-use Rattle.fb_model_laws.specs.Demands.{Node, state, event, channel, Demand, Ground, emitted, of_state, free_demand, of_free, crossing_demand, of_crossing, of_input, of_chart, sent, of_dispatch, of_kind, linked, heard, of_channel, channel_demands}
+use Rattle.fb_model.specs.Demands.{Node, state, event, channel, Demand, Ground, emitted, of_state, free_demand, of_free, crossing_demand, of_crossing, of_input, of_chart, sent, of_dispatch, of_kind, linked, heard, of_channel, channel_demands}
 use Rattle.fb_find_laws.specs.Numbered.{AreOf}
 use Rattle.fb_find_laws.specs.Nodes.{nodes_of, AreRowsOf}
 use Rattle.fb_lists.proofs.Lists.{all_image}

@@ -9,7 +9,7 @@ use Rattle.fb_model.specs.Wires.{Leaf}
 use Rattle.fb_model.specs.Certificates.{channels_of, with_repeats}
 use Rattle.fb_model.proofs.Networks.{AreRising, channels_rise}
 use Rattle.fb_model.specs.CertificateText.{names_in, place_of, all_but_last, last_name}
-use Rattle.fb_model_laws.specs.Demands.{Node, state, event, channel, node_in}
+use Rattle.fb_model.specs.Demands.{Node, state, event, channel, node_in}
 use Rattle.fb_find_laws.specs.Numbered.{AreNumbers}
 use Rattle.fb_find_laws.specs.Nodes.{written, index_in, number, nodes_of, AreRowsOf}
 use Rattle.fb_lists.proofs.Lists.{default_free}

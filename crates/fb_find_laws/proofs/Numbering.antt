@@ -5,7 +5,7 @@ use Rattle.std.proofs.lemmas.List.{length-map, get_or-map}
 use Rattle.std.proofs.lemmas.List.Sums.{sum_by-cons}
 use Rattle.std.proofs.lemmas.List.Elements.{Contains-get_or, All-contains, All-from_recursion, recursion_from_All, Contains-append_right}
 use Rattle.fb_model.specs.Names.{at_place}
-use Rattle.fb_model_laws.specs.Demands.{Node, state, Demand, IsMet, Asks, node_in, IsClosedWalk}
+use Rattle.fb_model.specs.Demands.{Node, state, Demand, IsMet, Asks, node_in, IsClosedWalk}
 use Rattle.fb_model_laws.proofs.Lists.{sum_by-map}
 use Rattle.fb_find_graph.specs.Systems.{Inequality, System, inequalities, asks, Fits, IsLeast, Demands}
 use Rattle.fb_find_graph.specs.Systems as numbered

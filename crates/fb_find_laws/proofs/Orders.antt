@@ -12,8 +12,8 @@ use Rattle.fb_model.specs.Wires.{Kind, Charted, Serviced, Leaf}
 use Rattle.fb_model.specs.Charts.{actions_of, is_open}
 use Rattle.fb_model.specs.Ranges.{Range}
 use Rattle.fb_model.specs.Certificates.{event_names, reached, admissions, channels_of}
-use Rattle.fb_model_laws.specs.Demands.{Node, event, Demand, Ground, of_state, free_demand, of_free, crossing_demand, of_crossing, of_input, sent, sending_demand, of_dispatch, of_kind, linked, heard, of_channel, channel_demands, bare, bare_demands, bare_network}
-use Rattle.fb_model_laws.specs.Columns.{ground_of, demands, network_demands}
+use Rattle.fb_model.specs.Demands.{Node, event, Demand, Ground, of_state, free_demand, of_free, crossing_demand, of_crossing, of_input, sent, sending_demand, of_dispatch, of_kind, linked, heard, of_channel, channel_demands, bare, bare_demands, bare_network}
+use Rattle.fb_model.specs.Columns.{ground_of, demands, network_demands}
 use Rattle.fb_model_laws.specs.Likeness.{AreLike}
 use Rattle.fb_model_laws.proofs.Likening.{like_append}
 use Rattle.fb_find_graph.specs.Graphs.{row, HasEdge, IsOrder}

@@ -8,7 +8,7 @@ use Rattle.fb_model.specs.Services.{service_events, arrive}
 use Rattle.fb_model.specs.Wires.{Kind, Charted, Serviced, Leaf}
 use Rattle.fb_model.specs.Charts.{actions_of, is_open, emission}
 use Rattle.fb_model.specs.Certificates.{reached, event_names, admissions, channels_of}
-use Rattle.fb_model_laws.specs.Demands.{Node, state, event, channel, Demand, Ground, emitted, of_state, free_demand, of_free, crossing_demand, of_crossing, of_input, of_dispatch, of_kind, linked, heard, of_channel, channel_demands, bare, bare_demands, bare_network, node_in}
+use Rattle.fb_model.specs.Demands.{Node, state, event, channel, Demand, Ground, emitted, of_state, free_demand, of_free, crossing_demand, of_crossing, of_input, of_dispatch, of_kind, linked, heard, of_channel, channel_demands, bare, bare_demands, bare_network, node_in}
 use Rattle.fb_model_laws.proofs.Lists.{all_append}
 use Rattle.fb_find_graph.specs.Systems.{Inequality, System, IsPaying}
 use Rattle.fb_find_laws.specs.Numbered.{AreNumbers, SaysSame, AreOf}

@@ -10,8 +10,8 @@ use Rattle.fb_model.specs.Certificates.{Row, FarRow, ChannelRow, amount, far_amo
 use Rattle.fb_model.specs.CertificateText.{place_of}
 use Rattle.fb_model.proofs.Lists.{same_name}
 use Rattle.fb_model.proofs.Placed.{name_same, path_same}
-use Rattle.fb_model_laws.specs.Demands.{Node, state, event, channel, Demand, IsMet}
-use Rattle.fb_model_laws.specs.Columns.{number_of}
+use Rattle.fb_model.specs.Demands.{Node, state, event, channel, Demand, IsMet}
+use Rattle.fb_model.specs.Columns.{number_of}
 use Rattle.fb_model.proofs.Networks.{number_turned}
 use Rattle.fb_find_laws.specs.Numbered.{AreOf, AreLeast}
 use Rattle.fb_find_laws.specs.Nodes.{written, index_in, rank_in, number, nodes_of}

@@ -3,7 +3,7 @@ use Rattle.std.proofs.Common.{ℕ, zero, suc, ◌≡◌, ◌<◌, ◌≤◌, ◌
 use Rattle.std.specs.List.{flat_map, AllByRecursion}
 use Rattle.std.proofs.lemmas.Bool.{eqb-true}
 use Rattle.std.proofs.lemmas.List.Elements.{Contains-append_left, Contains-append_right, Contains-append_cases}
-use Rattle.fb_model_laws.specs.Demands.{Node, Demand, IsMet}
+use Rattle.fb_model.specs.Demands.{Node, Demand, IsMet}
 use Rattle.fb_find_graph.specs.Systems.{Inequality, System, inequalities}
 use Rattle.fb_find_laws.specs.Numbered.{AreNumbers, inequality, SaysSame, AreOf, AreLeast}
 use Rattle.fb_find_laws.specs.Nodes.{Numbered, by_number, capped, asked_of, asked_at, AreGrouped, capped_demand}

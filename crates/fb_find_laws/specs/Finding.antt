@@ -1,57 +1,19 @@
 -- What is said of a certificate that is found: it fits, its rows stand in order, its ranges are those of the last rounds, and every other number is the least that fits them.
 -- This project's profile.
-use Rattle.std.specs.Prelude.{ℕ, ◌≡◌, ◌≤◌, max, List, [], ◌++◌, map, Option, Some}
+use Rattle.std.specs.Prelude.{ℕ, ◌≡◌, ◌≤◌, List, [], ◌++◌, map, Option, Some}
 use Rattle.std.specs.List.{AllByRecursion, Contains}
 use Rattle.fb_model.specs.Names.{Name, at_place}
 use Rattle.fb_model.specs.System.{Device, System}
 use Rattle.fb_model.specs.Wires.{Leaf, leaves}
 use Rattle.fb_model.specs.Ranges.{Range, rows, LeafClears}
-use Rattle.fb_model.specs.Certificates.{Row, amount, row_places, far_places, depth_rows, depth_paths, channel_rows, channels_of, with_repeats, PlaceRows, required, given, Certificate, steps_of, places_of, far_of, depth_of, kind_arrivals, begin_places, ArrivalsFit, all_leaves, AllRows, FollowsFew, Fits}
+use Rattle.fb_model.specs.Certificates.{Row, amount, row_places, far_places, channel_rows, Certificate, steps_of, places_of, far_of, depth_of, kind_arrivals, begin_places, ArrivalsFit, all_leaves, AllRows, FollowsFew}
 use Rattle.fb_model.specs.CertificateText.{place_of}
-use Rattle.fb_model_laws.specs.Demands.{Node, state, event, channel}
-use Rattle.fb_model_laws.specs.Columns.{number_of, demands, network_demands}
+use Rattle.fb_model.specs.Demands.{Node, state, event, channel}
+use Rattle.fb_model.specs.Columns.{number_of, demands, network_demands}
 use Rattle.fb_find_laws.specs.Numbered.{AreLeast}
 use Rattle.fb_find_laws.specs.Nodes.{nodes_of}
-use Rattle.fb_model_laws.specs.FinderRanges.{leaf_rows, AreFound}
-
--- the variables of leaves have the same ranges in both
-abbrev pub HaveSameRanges : List Range → List Range → List Leaf → Type 0
-HaveSameRanges xs ys all = AllByRecursion (λ (leaf : Leaf). (x : Name) → rows xs leaf.path leaf.kind x ≡ rows ys leaf.path leaf.kind x) all
-
--- no number of the first certificate is greater than that of the other; a depth is at least 1
-pub record IsAtMost (devices : List Device) (cert other : Certificate) : Type 0 where
-  pub steps : (x : Node) → number_of (steps_of cert) x ≤ number_of (steps_of other) x
-  pub places : (x : Node) → number_of (places_of cert) x ≤ number_of (places_of other) x
-  pub depths : AllByRecursion (λ (d : Device). (q : ℕ) → depth_of cert d q ≤ max 1 (depth_of other d q)) devices
-
--- its rows stand in the finder's order: those of a kind leaf by leaf or resource by resource, each leaf's in text order (variables: inputs, outputs, internals;
--- events: event inputs, and then the arrival), and channels upwards
-pub record IsInOrder (system : System) (cert : Certificate) : Type 0 where
-  pub places_are : (kind : PlaceRows) → given kind cert ≡ required kind cert.repeats (all_leaves system.devices)
-  pub depths_are : depth_rows cert.depths ≡ depth_paths system.devices
-  pub channels_are : channel_rows cert.channels ≡ with_repeats cert.repeats (channels_of (all_leaves system.devices))
-
--- its ranges are some of which this is so, and all else is as the finder owes it: without REPEATS it has no row of the network; with REPEATS the numbers of these rows
--- are the least of all certificates with these ranges and the same REPEATS
-pub record IsFoundWith (Are : List Range → Type 0) (repeats : Option ℕ) (system : System) (cert : Certificate) : Type 0 where
-  pub repeats_are : cert.repeats ≡ repeats
-  pub ordered : IsInOrder system cert
-  pub ranges : Are cert.ranges
-  pub fits : Fits system cert
-  pub least : (other : Certificate) → Fits system other → HaveSameRanges other.ranges cert.ranges (all_leaves system.devices) → IsAtMost system.devices cert other
-  pub least_far : (other : Certificate) → Fits system other → HaveSameRanges other.ranges cert.ranges (all_leaves system.devices) → other.repeats ≡ repeats → (x : Node) → number_of (far_of cert) x ≤ number_of (far_of other) x
-
--- its ranges are those of the last rounds
-abbrev pub IsFound : Option ℕ → System → Certificate → Type 0
-IsFound repeats system cert = IsFoundWith (AreFound system.devices) repeats system cert
-
--- these rows are those of all variables that are not BOOL, in order, each with the range that it has in others, and all numbers of its type where it has none there
-abbrev pub AreTaken : List Range → List Device → List Range → Type 0
-AreTaken others ds ranges = ranges ≡ leaf_rows (λ leaf v. rows others leaf.path leaf.kind v.name) (all_leaves ds)
-
--- its ranges are taken from these
-abbrev pub IsFoundWithin : List Range → Option ℕ → System → Certificate → Type 0
-IsFoundWithin others repeats system cert = IsFoundWith (AreTaken others system.devices) repeats system cert
+use Rattle.fb_model.specs.FinderRanges.{AreFound}
+use Rattle.fb_model.specs.Finding.{IsInOrder}
 
 -- ---- how it is found
 

@@ -7,7 +7,7 @@ use Rattle.fb_model.specs.Names.{Name, Place, place_eq}
 use Rattle.fb_model.specs.Wires.{Leaf}
 use Rattle.fb_model.specs.Certificates.{state_places, event_places, channels_of, with_repeats}
 use Rattle.fb_model.specs.CertificateText.{place_of}
-use Rattle.fb_model_laws.specs.Demands.{Node, state, event, channel, Demand, node_in, IsClosedWalk}
+use Rattle.fb_model.specs.Demands.{Node, state, event, channel, Demand}
 use Rattle.fb_find_graph.specs.Systems.{Inequality, System, inequalities}
 
 -- a place as it is written: the names of its path and its own, joined by dots
@@ -36,22 +36,6 @@ nodes_of states events channels = map (λ t. state (place_of t)) states ++ (map 
 pub record AreInOrder (all : List Leaf) (states events : List Name) : Type 0 where
   pub states_are : map place_of states ≡ state_places all
   pub events_are : map place_of events ≡ event_places all
-
--- the nodes of leaves in the order of their rows: states, behind them event inputs and arrivals, and behind these the channels that they name
-abbrev pub nodes_in_order : List Leaf → List Node
-nodes_in_order all = map state (state_places all) ++ (map event (event_places all) ++ map channel (channels_of all))
-
--- a walk begins at that of its nodes which comes first in this order
-pub record BeginsFirst (order walk : List Node) : Type 0 where
-  pub before : List Node
-  pub after : List Node
-  pub order_is : order ≡ before ++ node_in walk 0 ∷ after
-  pub none_before : (k : ℕ) → k < length walk → Contains before (node_in walk k) → ⊥
-
--- a closed walk of these demands of leaves, from the first of its nodes on
-pub record IsFirstWalk (ds : List Demand) (all : List Leaf) (walk : List Node) : Type 0 where
-  pub closed : IsClosedWalk ds walk
-  pub first : BeginsFirst (nodes_in_order all) walk
 
 -- these rows are those of all states and events of leaves, no two are the same, and with a row REPEATS these are the channels that they name
 pub record AreRowsOf (repeats : Option ℕ) (all : List Leaf) (states events : List Name) (channels : List ℕ) : Type 0 where

@@ -1,7 +1,7 @@
 -- Demands by numbers: nodes are places of a list, and inequalities over them say what the demands say.
 use Rattle.std.specs.Prelude.{ℕ, ◌≡◌, ◌<◌, ◌≤◌, List, length, map}
 use Rattle.std.specs.List.{Contains, AllByRecursion}
-use Rattle.fb_model_laws.specs.Demands.{Node, Demand, IsMet, node_in}
+use Rattle.fb_model.specs.Demands.{Node, Demand, IsMet, node_in}
 use Rattle.fb_find_graph.specs.Systems.{Inequality, System, inequalities}
 
 -- each node of the list has its place there as its number, and no two have one

@@ -9,11 +9,12 @@ ghost use Rattle.fb_model.specs.Wires.{Leaf};
 ghost use Rattle.fb_model.specs.Names.{Name};
 ghost use Rattle.fb_model.specs.Ranges.{Range};
 ghost use Rattle.fb_model.specs.Certificates.{all_leaves, Certificate};
-ghost use Rattle.fb_model_laws.specs.Demands.{bare_demands, bare_network, Demand, IsMet, Node};
-ghost use Rattle.fb_model_laws.specs.Columns.{demands, network_demands};
+ghost use Rattle.fb_model.specs.Demands.{bare_demands, bare_network, Demand, IsMet, Node};
+ghost use Rattle.fb_model.specs.Columns.{demands, network_demands};
 ghost use Rattle.fb_find_graph.specs.Systems.{IsLeast, System};
 ghost use Rattle.fb_find_laws.specs.Numbered.{AreLeast, AreNumbers, AreOf, SaysSame};
-ghost use Rattle.fb_find_laws.specs.Finding.{IsFound, IsMade};
+ghost use Rattle.fb_find_laws.specs.Finding.{IsMade};
+ghost use Rattle.fb_model.specs.Finding.{IsFound};
 ghost use Rattle.fb_find_laws.specs.Nodes.{by_number, capped_demand, number, nodes_of, AreGrouped, AreRowsOf};
 
 /// The nodes of rows have the numbers of their places in the list.

@@ -2,7 +2,7 @@
 
 ghost use Rattle.std.specs.Prelude.{ℕ, List, map};
 ghost use Rattle.fb_model.specs.Wires.{Leaf};
-ghost use Rattle.fb_model_laws.specs.Demands.{bare_demands, bare_network, Demand, IsClosedWalk, Node, node_in};
+ghost use Rattle.fb_model.specs.Demands.{bare_demands, bare_network, Demand, IsClosedWalk, Node, node_in};
 ghost use Rattle.fb_find_graph.specs.Systems as numbered;
 ghost use Rattle.fb_find_graph.specs.Systems.{IsLeast, IsPaying, System};
 ghost use Rattle.fb_find_laws.specs.Numbered.{AreLeast, AreNumbers, AreOf, SaysSame};

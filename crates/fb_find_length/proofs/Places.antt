@@ -12,7 +12,8 @@ use Rattle.fb_types_networks.specs.declared.typed.Body as raw
 use Rattle.fb_types_networks.specs.declared.typed.Body.{the_lemmas}
 use Rattle.fb_types_networks.specs.declared.typed.Instance.{Instance}
 use Rattle.fb_types_networks.specs.declared.typed.Network.{Network, out-Network}
-use Rattle.fb_types_networks.specs.Views.{placed_in, instances_of, body_of, placed_of, wired_of}
+use Rattle.fb_types_networks.specs.Views.{instances_of, body_of, placed_of, wired_of}
+use Rattle.fb_model.specs.NetworkFaults.{placed_in}
 use Rattle.fb_types_networks.proofs.Instances.{view_instance, view_network}
 use Rattle.fb_types.specs.declared.typed.Resource.{Resource}
 use Rattle.fb_types.specs.declared.typed.Device.{Device}

@@ -7,7 +7,7 @@ use Rattle.fb_model.specs.System.{Variable, Body, Basic, Served, Composite, Inst
 use Rattle.fb_model.specs.Wires.{Kind, Charted, Serviced}
 use Rattle.fb_model.specs.Certificates.{is_boolean, state_names, events_of}
 use Rattle.fb_model.specs.CertificateText.{most_characters}
-use Rattle.fb_types_networks.specs.Views.{Placed}
+use Rattle.fb_model.specs.NetworkFaults.{Placed}
 
 -- rows of these names, each with so much beside its name
 abbrev pub names_length : ℕ → List Name → ℕ

@@ -22,7 +22,7 @@ use Rattle.fb_model.specs.Certificates.{all_leaves, is_boolean}
 use Rattle.fb_model.specs.CertificateText.{names_in, range_row}
 use Rattle.fb_model.proofs.Lists.{all_weaker}
 use Rattle.fb_model.proofs.Names.{eq_turned}
-use Rattle.fb_model_laws.specs.FinderRanges as finder
+use Rattle.fb_model.specs.FinderRanges as finder
 use Rattle.fb_model_laws.specs.Words.{IsWordyLeaf, IsWordyDevice, declared_names}
 use Rattle.fb_cert.specs.Adding.{is_upper_path}
 use Rattle.fb_cert.specs.Views.{Table, Rows, has_path, range_rows}

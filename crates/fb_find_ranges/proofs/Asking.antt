@@ -12,8 +12,8 @@ use Rattle.fb_model.specs.Spans.{Span, span, whole, joined}
 use Rattle.fb_model.specs.Clear.{Spans}
 use Rattle.fb_model.specs.Ranges.{Range, variables, rows, row_of}
 use Rattle.fb_model.proofs.Lists.{same_path}
-use Rattle.fb_model_laws.specs.Asking.{grown}
-use Rattle.fb_model_laws.specs.FinderRanges.{fed, worked_on, worked, asked}
+use Rattle.fb_model.specs.Asking.{grown}
+use Rattle.fb_model.specs.FinderRanges.{fed, worked_on, worked, asked}
 use Rattle.fb_check_ranges.specs.Rows.{type_in, numbers_in}
 use Rattle.fb_find_ranges.specs.Lines.{Tabled, tabled_at, given, fed_in, all_grown, grown_by, joined_all, asked_in}
 

@@ -14,7 +14,7 @@ use Rattle.fb_model.specs.Ranges.{Range, variables, row_of, rows}
 use Rattle.fb_model.specs.Certificates.{is_boolean}
 use Rattle.fb_model.proofs.Lists.{all_weaker}
 use Rattle.fb_model_laws.specs.Leaves.{AreApart, IsFed}
-use Rattle.fb_model_laws.specs.FinderRanges.{held, first_value, range_row, rows_by, kind_rows, leaf_rows, round, Settles, ends, goes_on, IsLast, IsTable}
+use Rattle.fb_model.specs.FinderRanges.{held, first_value, range_row, rows_by, kind_rows, leaf_rows, round, Settles, ends, goes_on, IsLast, IsTable}
 use Rattle.fb_model_laws.proofs.HoldingRows.{all_own}
 use Rattle.fb_model_laws.proofs.Looking.{settled, AreSame, AreOwn, RowsStand, rows_stand}
 use Rattle.fb_find_ranges.specs.Lines.{line_by, lines_by, Lined, spans_by, next_round, next_number}

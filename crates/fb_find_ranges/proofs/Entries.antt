@@ -18,7 +18,7 @@ use Rattle.st_types.specs.declared.whole.Algo.{Algo}
 use Rattle.st_types.specs.CommandViews.{commands_of}
 use Rattle.fb_model.specs.Spans.{Span, span, joined}
 use Rattle.fb_model.specs.Clear.{Spans, changed}
-use Rattle.fb_model_laws.specs.Asking.{grown}
+use Rattle.fb_model.specs.Asking.{grown}
 use Rattle.fb_ranges_intervals.specs.Views.{span_of}
 use Rattle.fb_lists.proofs.Lists.{take_at}
 use Rattle.fb_find_ranges.specs.declared.rows.Row.{Row}

@@ -7,7 +7,7 @@ use Rattle.fb_words.specs.declared.elem_type.ElemType.{ElemType}
 use Rattle.fb_model.specs.Values.{lowest, highest}
 use Rattle.fb_model.specs.Spans.{Span, joined}
 use Rattle.fb_model.specs.Certificates.{is_boolean}
-use Rattle.fb_model_laws.specs.FinderRanges.{widened}
+use Rattle.fb_model.specs.FinderRanges.{widened}
 use Rattle.fb_find_ranges.specs.Lines.{Line, Lined, Tabled, tabled, asked_in, stepped, next_line, next_lined, next_round, next_number}
 use Rattle.fb_find_ranges.specs.Sameness.{same_span, same_lines, same_all}
 

@@ -13,7 +13,7 @@ use Rattle.fb_model.specs.Ranges.{Range, variables, row_of, rows}
 use Rattle.fb_model.specs.Certificates.{is_boolean}
 use Rattle.fb_model.proofs.Lists.{all_both}
 use Rattle.fb_model_laws.specs.Leaves.{AreApart, IsFed}
-use Rattle.fb_model_laws.specs.FinderRanges.{leaf_rows, asked, widened}
+use Rattle.fb_model.specs.FinderRanges.{leaf_rows, asked, widened}
 use Rattle.fb_model_laws.proofs.HoldingRows.{all_own}
 use Rattle.fb_model_laws.proofs.Looking.{settled, AreOwn, RowsStand, rows_stand}
 use Rattle.fb_model_laws.proofs.Spans.{Inside, widened_typed, widened_more}

@@ -5,7 +5,7 @@ use Rattle.std.proofs.lemmas.Int.{ints, clamps}
 use Rattle.fb_model.specs.Values.{Value, numbers_of}
 use Rattle.fb_model.specs.Spans.{Span, span, within}
 use Rattle.fb_model.specs.Shapes.{IsIn}
-use Rattle.fb_model_laws.specs.FinderRanges.{held}
+use Rattle.fb_model.specs.FinderRanges.{held}
 use Rattle.fb_model_laws.proofs.Spans.{Inside, inside_is, inside_within, held_holds}
 use Rattle.fb_check_ranges.specs.Beginning.{IsRange}
 

@@ -15,7 +15,7 @@ use Rattle.fb_model_laws.specs.Leaves.{AreApart, IsFed}
 use Rattle.fb_model_laws.proofs.Paths.{all_apart}
 use Rattle.fb_model_laws.proofs.Values.{all_fed}
 use Rattle.fb_model_laws.specs.Devices.{FindsAlike, FindsItsLast}
-use Rattle.fb_model_laws.specs.FinderRanges.{kind_rows, start_rows, AreFound, no_device, a_device, IsTable}
+use Rattle.fb_model.specs.FinderRanges.{kind_rows, start_rows, AreFound, no_device, a_device, IsTable}
 use Rattle.fb_model_laws.proofs.Devices.{found_rows_are_last}
 use Rattle.fb_model_laws.proofs.Rounding.{one_end}
 use Rattle.fb_flat.specs.declared.flat.FlatDevice.{FlatDevice}

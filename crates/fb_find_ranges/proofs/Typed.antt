@@ -12,7 +12,7 @@ use Rattle.fb_model.specs.Spans.{whole}
 use Rattle.fb_model.specs.Ranges.{variables}
 use Rattle.fb_model.proofs.Lists.{all_append, all_both}
 use Rattle.fb_model_laws.specs.Leaves.{HasType, StartsFit, IsGoodKind, Yields, Feeds, IsFed}
-use Rattle.fb_model_laws.specs.FinderRanges.{held, first_value}
+use Rattle.fb_model.specs.FinderRanges.{held, first_value}
 use Rattle.fb_model_laws.proofs.HoldingRows.{all_first, named_more}
 use Rattle.fb_model_laws.proofs.Spans.{Inside, held_typed}
 

@@ -4,7 +4,7 @@ use Rattle.std.specs.List.{AllZip}
 use Rattle.fb_model.specs.Wires.{Leaf}
 use Rattle.fb_model.specs.Clear.{Spans}
 use Rattle.fb_model.specs.Ranges.{Range}
-use Rattle.fb_model_laws.specs.FinderRanges.{kind_rows, IsLast, IsTable}
+use Rattle.fb_model.specs.FinderRanges.{kind_rows, IsLast, IsTable}
 
 -- the rows that tables spell, leaf by leaf
 abbrev pub spelled : List Spans → List Leaf → List Range

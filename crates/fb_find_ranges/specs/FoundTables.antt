@@ -6,7 +6,7 @@ use Rattle.fb_model.specs.System.{Device}
 use Rattle.fb_model.specs.Wires.{Leaf}
 use Rattle.fb_model.specs.Certificates.{all_leaves}
 use Rattle.fb_model_laws.specs.Leaves.{AreApart, IsFed}
-use Rattle.fb_model_laws.specs.FinderRanges.{AreFound, IsTable}
+use Rattle.fb_model.specs.FinderRanges.{AreFound, IsTable}
 use Rattle.fb_flat.specs.declared.flat.FlatDevice.{FlatDevice}
 use Rattle.fb_flat.specs.Tables.{AreLeaves}
 use Rattle.fb_check_ranges.specs.Places.{leaves_in}

@@ -11,8 +11,8 @@ use Rattle.fb_model.specs.Spans.{Span, whole, joined}
 use Rattle.fb_model.specs.Clear.{Spans, changed}
 use Rattle.fb_model.specs.Ranges.{variables}
 use Rattle.fb_model.specs.Certificates.{is_boolean}
-use Rattle.fb_model_laws.specs.Asking.{grown}
-use Rattle.fb_model_laws.specs.FinderRanges.{held, widened}
+use Rattle.fb_model.specs.Asking.{grown}
+use Rattle.fb_model.specs.FinderRanges.{held, widened}
 use Rattle.fb_check_ranges.specs.Rows.{type_in, numbers_in}
 
 -- ---- rows in order

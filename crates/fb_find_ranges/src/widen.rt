@@ -3,7 +3,7 @@
 ghost use Rattle.std.specs.Prelude.{◌≡◌, int_lt, if◌then◌else◌};
 ghost use Rattle.std.specs.Int.{int_min, int_max};
 ghost use Rattle.fb_model.specs.Spans.{joined, span};
-ghost use Rattle.fb_model_laws.specs.FinderRanges as book;
+ghost use Rattle.fb_model.specs.FinderRanges as book;
 ghost use Rattle.fb_ranges_intervals.specs.Views.{span_of};
 ghost use Rattle.fb_find_ranges.specs.Lines as lines;
 

@@ -3,7 +3,7 @@
 ghost use Rattle.std.specs.Prelude.{◌≡◌, IfOk, OnOk};
 ghost use Rattle.fb_model.specs.Names.{Name};
 ghost use Rattle.fb_model.specs.Spans.{joined};
-ghost use Rattle.fb_model_laws.specs.Asking as book;
+ghost use Rattle.fb_model.specs.Asking as book;
 ghost use Rattle.st_types.specs.CommandViews.{commands_of};
 ghost use Rattle.fb_types_blocks.specs.Views.{procedures_of};
 ghost use Rattle.fb_flat.specs.Leaves.{kind_of};

@@ -20,7 +20,7 @@ use Rattle.fb_flat.specs.declared.flat.FlatDevice.{FlatDevice}
 use Rattle.fb_flat.specs.Tables.{IsLeaf, AreLeaves, IsResource, AreResources, IsDevice, AreDevices}
 use Rattle.fb_check_rows.specs.Depths.{IsMost}
 use Rattle.fb_check_rows.proofs.Beginning.{found, none_left}
-use Rattle.fb_find_rows.specs.Needs.{arrival_of, most_at}
+use Rattle.fb_model.specs.Finding.{arrival_of, most_at}
 use Rattle.fb_find_room.specs.Room.{arrivals_of, arrivals_in, arrivals_at}
 
 -- the most that `u64` tells

@@ -12,7 +12,7 @@ use Rattle.fb_model.specs.Certificates.{amount, kind_arrivals}
 use Rattle.fb_model.specs.CertificateText.{most_places, names_in}
 use Rattle.fb_cert.specs.Views.{Rows, Table, book_of, depth_rows, with_depth_at}
 use Rattle.fb_cert.specs.Adding.{is_within}
-use Rattle.fb_find_rows.specs.Needs.{arrival_of, most_at}
+use Rattle.fb_model.specs.Finding.{arrival_of, most_at}
 use Rattle.fb_find_room.specs.Room.{arrivals_of, arrivals_in, arrivals_at, roomy, roomy_at, roomy_depth, roomy_rows}
 
 -- ---- what arrivals take is told by the weights alone

@@ -6,7 +6,7 @@ use Rattle.fb_model.specs.Wires.{Leaf, resource_leaves}
 use Rattle.fb_model.specs.Certificates.{Certificate, DepthRow}
 use Rattle.fb_model.specs.CertificateText.{most_places, names_in}
 use Rattle.fb_cert.specs.Views.{Rows, book_of, with_depth_at}
-use Rattle.fb_find_rows.specs.Needs.{arrival_of}
+use Rattle.fb_model.specs.Finding.{arrival_of}
 
 -- the places of one arrival of each kind among these leaves
 abbrev pub arrivals_of : Certificate → List Leaf → ℕ

@@ -21,10 +21,11 @@ use Rattle.fb_cert.specs.Views.{depth_rows}
 use Rattle.fb_flat.specs.declared.flat.FlatResource.{FlatResource}
 use Rattle.fb_flat.specs.declared.flat.FlatDevice.{FlatDevice}
 use Rattle.fb_flat.specs.Tables.{AreResources, IsDevice, AreDevices}
-use Rattle.fb_check_rows.specs.Depths.{begins_of}
+use Rattle.fb_model.specs.Finding.{begins_of}
 use Rattle.fb_check_rows.proofs.DepthSystems.{IsFrom, begin_first, begin_next, from_first, name_here, names_next}
 use Rattle.fb_find_laws.specs.Finding.{HasNeededDepths, IsNeeded, is_one, for_arrival, for_begins}
-use Rattle.fb_find_rows.specs.Needs.{all_rows, AreFresh, arrival_of, device_rows, most_arrival, most_at, needed_depth, paths, resource_texts, rows_from}
+use Rattle.fb_find_rows.specs.Needs.{all_rows, AreFresh, device_rows, paths, resource_texts, rows_from}
+use Rattle.fb_model.specs.Finding.{arrival_of, most_arrival, most_at, needed_depth}
 use Rattle.fb_find_rows.proofs.Needing.{all_at}
 use Rattle.fb_find_rows.proofs.Found.{found_all, none_found}
 use Rattle.fb_find_rows.proofs.QueueRows.{paths_from}

@@ -6,7 +6,7 @@ use Rattle.std.specs.declared.string.String.{String}
 use Rattle.std.specs.declared.alloc.Global.{Global}
 use Rattle.fb_model.specs.Names.{Name, at_place}
 use Rattle.fb_model.specs.CertificateText.{place_of}
-use Rattle.fb_model_laws.specs.Demands.{Node, state, event, channel, node_in}
+use Rattle.fb_model.specs.Demands.{Node, state, event, channel, node_in}
 use Rattle.fb_find_laws.specs.Nodes.{nodes_of}
 use Rattle.std.proofs.lemmas.List.{length-map, get_or-map, get_or_append_left, get_or-append_right}
 

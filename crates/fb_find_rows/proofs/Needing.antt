@@ -11,9 +11,10 @@ use Rattle.fb_cert.specs.declared.certificate.Certificate.{Certificate}
 use Rattle.fb_cert.specs.Views.{certificate_of}
 use Rattle.fb_flat.specs.declared.flat.Leaf.{Leaf}
 use Rattle.fb_flat.specs.Tables.{IsLeaf, AreLeaves}
-use Rattle.fb_check_rows.specs.Depths.{begins_of, IsBegin, IsMost}
+use Rattle.fb_check_rows.specs.Depths.{IsBegin, IsMost}
+use Rattle.fb_model.specs.Finding.{begins_of}
 use Rattle.fb_check_rows.proofs.Beginning.{found, none_left}
-use Rattle.fb_find_rows.specs.Needs.{arrival_of, most_arrival, most_at, needed_depth}
+use Rattle.fb_model.specs.Finding.{arrival_of, most_arrival, most_at, needed_depth}
 
 -- ---- an arrival
 

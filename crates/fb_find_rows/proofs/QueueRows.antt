@@ -16,10 +16,11 @@ use Rattle.fb_cert.specs.Adding.{is_sayable, is_upper_path}
 use Rattle.fb_flat.specs.declared.flat.FlatResource.{FlatResource}
 use Rattle.fb_flat.specs.declared.flat.FlatDevice.{FlatDevice}
 use Rattle.fb_flat.specs.Tables.{IsResource, AreResources, IsDevice, AreDevices}
-use Rattle.fb_check_rows.specs.Depths.{begins_of}
-use Rattle.fb_find_rows.specs.declared.fault.NoBound.{NoBound}
-use Rattle.fb_find_rows.specs.declared.fault.NoBound.TheVariants.{OutOfMemory, Cycle, NoRange, Limit}
-use Rattle.fb_find_rows.specs.Needs.{AreFresh, all_rows, device_rows, IsPastFault, IsPastAmong, IsPastHere, IsPastIn, most_arrival, needed_depth, paths, resource_texts, rows_from, with_more}
+use Rattle.fb_model.specs.Finding.{begins_of}
+use Rattle.fb_faults.specs.declared.no_bound.NoBound.{NoBound}
+use Rattle.fb_faults.specs.declared.no_bound.NoBound.TheVariants.{OutOfMemory, Cycle, NoRange, Limit}
+use Rattle.fb_find_rows.specs.Needs.{AreFresh, all_rows, device_rows, IsPastFault, paths, resource_texts, rows_from, with_more}
+use Rattle.fb_model.specs.Finding.{IsPastAmong, IsPastHere, IsPastIn, most_arrival, needed_depth}
 
 -- ---- one row
 

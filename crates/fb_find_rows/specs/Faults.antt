@@ -2,14 +2,15 @@
 use Rattle.std.specs.Prelude.{ℕ, ◌≡◌, ◌+◌, ◌<◌, List, length, map, take, string_bytes}
 use Rattle.fb_model.specs.Names.{Name}
 use Rattle.fb_model.specs.CertificateText.{names_in}
-use Rattle.fb_model_laws.specs.Demands.{node_in}
+use Rattle.fb_model.specs.Demands.{node_in}
 use Rattle.fb_find_graph.specs.Graphs.{IsClosed}
 use Rattle.fb_find_graph.specs.Searches.{IsFromLeast}
 use Rattle.fb_find_graph.specs.Systems.{System, needs, IsLeast}
 use Rattle.fb_find_laws.specs.Nodes.{nodes_of}
-use Rattle.fb_find_rows.specs.declared.fault.NoBound.{NoBound}
-use Rattle.fb_find_rows.specs.declared.fault.NoBound.TheVariants.{OutOfMemory, Cycle, NoRange, Limit}
-use Rattle.fb_find_rows.specs.Places.{node_of, text_at}
+use Rattle.fb_faults.specs.declared.no_bound.NoBound.{NoBound}
+use Rattle.fb_faults.specs.declared.no_bound.NoBound.TheVariants.{OutOfMemory, Cycle, NoRange, Limit}
+use Rattle.fb_find_rows.specs.Places.{text_at}
+use Rattle.fb_model.specs.Finding.{node_of}
 
 -- want of memory, or a closed walk of places from the first of them on
 abbrev pub IsWalk : System → List Name → List Name → List ℕ → NoBound → Type 0

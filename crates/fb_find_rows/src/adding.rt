@@ -7,9 +7,10 @@ ghost use Rattle.fb_model.specs.System as book;
 ghost use Rattle.fb_model.specs.Wires.{resource_leaves};
 ghost use Rattle.fb_cert.specs.Views.{certificate_of, rows_of};
 ghost use Rattle.fb_flat.specs.Tables.{AreDevices, IsDevice, IsResource};
-ghost use Rattle.fb_find_rows.specs.Needs.{AreFresh, all_rows, device_rows, IsPastFault, IsPastAmong, IsPastHere, IsPastIn, needed_depth, paths, resource_texts, with_more};
+ghost use Rattle.fb_find_rows.specs.Needs.{AreFresh, all_rows, device_rows, IsPastFault, paths, resource_texts, with_more};
+ghost use Rattle.fb_model.specs.Finding.{IsPastAmong, IsPastHere, IsPastIn, needed_depth};
 
-use crate::NoBound;
+use fb_faults::NoBound;
 use crate::need::needed;
 use fb_cert::{Certificate, Row};
 use fb_flat::{Flat, FlatDevice, FlatResource};

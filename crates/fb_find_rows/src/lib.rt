@@ -4,7 +4,6 @@
 
 mod adding;
 mod far;
-mod fault;
 mod need;
 mod order;
 mod place;
@@ -14,8 +13,7 @@ mod solving;
 
 pub use adding::add_depths;
 pub use far::{add_channels, add_far_states, add_fars};
-pub use fault::NoBound;
 pub use order::sorted;
-pub use place::{Place, place_at, places};
+pub use place::{place_at, places};
 pub use rows::{add_charges, add_weights};
 pub use solving::{Nodes, solved};

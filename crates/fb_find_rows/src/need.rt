@@ -5,7 +5,7 @@ ghost use Rattle.fb_model.specs.Wires as wires;
 ghost use Rattle.fb_cert.specs.Views.{certificate_of};
 ghost use Rattle.fb_check_rows.specs.Depths.{IsBegin};
 ghost use Rattle.fb_flat.specs.Tables.{AreLeaves, IsLeaf};
-ghost use Rattle.fb_find_rows.specs.Needs.{arrival_of, needed_depth};
+ghost use Rattle.fb_model.specs.Finding.{arrival_of, needed_depth};
 
 use fb_cert::Certificate;
 use fb_check_rows::{arrival_places, begin_places};

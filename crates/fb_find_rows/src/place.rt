@@ -2,39 +2,15 @@
 
 ghost use Rattle.std.specs.Prelude.{◌≡◌, ◌<◌, ◌+◌, ◌++◌, length, map, IfOk};
 ghost use Rattle.std.specs.List.{All};
-ghost use Rattle.fb_model_laws.specs.Demands.{channel, event, Node, node_in};
+ghost use Rattle.fb_model.specs.Demands.{channel, event, Node, node_in};
 ghost use Rattle.fb_model.specs.CertificateText.{place_of};
 ghost use Rattle.fb_find_laws.specs.Nodes.{nodes_of};
-ghost use Rattle.fb_find_rows.specs.Places.{node_of, texts_of};
+ghost use Rattle.fb_find_rows.specs.Places.{texts_of};
+ghost use Rattle.fb_model.specs.Finding.{node_of};
 
+use fb_faults::Place;
 use indexmap::IndexSet;
 use std::alloc::{AllocError, Global};
-use std::fmt;
-
-/// A state of a chart, or an event input or arrival, by its path: names joined by dots, the last its own; or a channel by its number. A state and an
-/// event of one block may share a name.
-#[derive(Drop)]
-pub enum Place {
-    State(String),
-    Event(String),
-    Channel(u16),
-}
-
-/// Its path, or its number.
-impl fmt::Display for Place {
-    ghost use Rattle.std.specs.Prelude.{Some};
-    ghost use Rattle.fb_find_rows.specs.Places.{path_in};
-
-    ghost output = { λ p. Some (path_in p) };
-
-    fn fmt<W: fmt::Write>(&self, f: &mut fmt::Formatter<W>) -> fmt::Result {
-        match self {
-            Place::State(path) => write!(f, "{path}"),
-            Place::Event(path) => write!(f, "{path}"),
-            Place::Channel(number) => write!(f, "{number}"),
-        }
-    }
-}
 
 // The channel of a number.
 fn channel_at(channels: &[u16], number: usize) -> Place

@@ -8,7 +8,7 @@ ghost use Rattle.fb_find_graph.specs.Views.{system_of};
 ghost use Rattle.fb_find_rows.specs.Places.{text_at, texts_of};
 ghost use Rattle.fb_find_rows.specs.Faults.{IsPastLimit, IsResourceIn};
 
-use crate::fault::NoBound;
+use fb_faults::NoBound;
 use crate::resource::resource_in;
 use fb_find_graph::{Alternative, Solved, solve};
 use indexmap::IndexSet;

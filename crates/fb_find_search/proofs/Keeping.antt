@@ -7,7 +7,7 @@ use Rattle.fb_model.specs.Spans.{Span, span}
 use Rattle.fb_model.specs.CertificateText.{range}
 use Rattle.fb_model.specs.System.{System}
 use Rattle.fb_cert.specs.Views.{Rows, Table, with_row}
-use Rattle.fb_find_rows.specs.declared.fault.NoBound.{NoBound}
+use Rattle.fb_faults.specs.declared.no_bound.NoBound.{NoBound}
 use Rattle.fb_find.specs.Bounds.{IsNoBoundWithin, RowsStand, Stands}
 use Rattle.fb_find_search.specs.Searching.{AreFirstOf, IsNoBoundKeeping, IsRanged}
 

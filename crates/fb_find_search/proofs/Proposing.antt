@@ -4,7 +4,7 @@ use Rattle.std.specs.List.{list_any}
 use Rattle.fb_model.specs.Names.{Name, is_in, place_eq}
 use Rattle.fb_model.specs.System.{System}
 use Rattle.fb_model.specs.CertificateText.{place_of}
-use Rattle.fb_types.specs.Written.{IsWritten}
+use Rattle.fb_model.specs.Written.{IsWritten}
 use Rattle.fb_flat.specs.declared.flat.FlatDevice.{FlatDevice}
 use Rattle.fb_flat.specs.Leaves.{flat_device, written_device}
 use Rattle.fb_verified.proofs.Written.{tables_are, words}

@@ -4,9 +4,9 @@ use Rattle.std.specs.declared.string.String.{String}
 use Rattle.std.specs.declared.alloc.Global.{Global}
 use Rattle.fb_model.specs.System.{System}
 use Rattle.fb_model.specs.Certificates.{Certificate, Fits}
-use Rattle.fb_find_rows.specs.declared.fault.NoBound.{NoBound}
-use Rattle.fb_find_rows.specs.declared.fault.NoBound.TheVariants.{OutOfMemory, Cycle, NoRange, Limit}
-use Rattle.fb_find.specs.Bounds.{IsRuledOut, IsNoBound, IsWalk}
+use Rattle.fb_faults.specs.declared.no_bound.NoBound.{NoBound}
+use Rattle.fb_faults.specs.declared.no_bound.NoBound.TheVariants.{OutOfMemory, Cycle, NoRange, Limit}
+use Rattle.fb_model.specs.Finding.{IsRuledOut, IsNoBound, IsWalk}
 use Rattle.fb_find_search.specs.Searching.{IsSearched, IsStill}
 
 pub still_told : (repeats : Option ℕ) (s : System) (path : String Global) → IsNoBound repeats s (NoRange path) → (fault : NoBound) → IsStill path fault → IsNoBound repeats s fault

@@ -9,10 +9,11 @@ use Rattle.fb_model.specs.Certificates.{Certificate, Range_rows, all_leaves, req
 use Rattle.fb_model.specs.CertificateText.{place_of}
 use Rattle.fb_model.specs.Spans.{Span}
 use Rattle.fb_cert.specs.Views.{Rows, Table}
-use Rattle.fb_find_laws.specs.Finding.{IsFound, IsFoundWith}
-use Rattle.fb_find_rows.specs.declared.fault.NoBound.{NoBound}
-use Rattle.fb_find_rows.specs.declared.fault.NoBound.TheVariants.{OutOfMemory, Cycle, NoRange, Limit}
-use Rattle.fb_find.specs.Bounds.{IsNoBound, IsNoBoundWithin}
+use Rattle.fb_model.specs.Finding.{IsFound, IsFoundWith}
+use Rattle.fb_faults.specs.declared.no_bound.NoBound.{NoBound}
+use Rattle.fb_faults.specs.declared.no_bound.NoBound.TheVariants.{OutOfMemory, Cycle, NoRange, Limit}
+use Rattle.fb_find.specs.Bounds.{IsNoBoundWithin}
+use Rattle.fb_model.specs.Finding.{IsNoBound}
 
 -- whatever its ranges are, it fits, and its other numbers are the least for these
 abbrev pub IsFoundSomehow : Option ℕ → System → Certificate → Type 0

@@ -10,17 +10,19 @@ ghost use Rattle.fb_types_blocks.specs.Views.{names_of};
 ghost use Rattle.fb_check_rows.specs.Members.{gathered};
 ghost use Rattle.fb_check_rows.specs.Texts.{texts_of};
 ghost use Rattle.fb_check_rows.specs.declared.kind.RowKind.TheVariants.{Range};
-ghost use Rattle.fb_find.specs.Bounds.{IsRuledOut, IsNoBound, IsWalk, RowsStand};
+ghost use Rattle.fb_find.specs.Bounds.{RowsStand};
+ghost use Rattle.fb_model.specs.Finding.{IsRuledOut, IsNoBound, IsWalk};
 ghost use Rattle.fb_find_search.specs.Searching.{AreFirstOf, IsFoundSomehow, IsNoBoundKeeping, IsRanged, IsSearched, IsStill};
 
 use fb_cert::{Certificate, Row};
 use fb_check_rows::{RowKind, required};
 use fb_find::{find, find_within};
 use fb_find_candidate::candidate;
-use fb_find_rows::NoBound;
+use fb_faults::NoBound;
 use fb_flat::{Flat, flatten};
 use fb_ranges_intervals::Interval;
-use fb_types::{TypeFault, Typed};
+use fb_faults::TypeFault;
+use fb_types::Typed;
 use indexmap::IndexSet;
 use std::alloc::{AllocError, Global};
 

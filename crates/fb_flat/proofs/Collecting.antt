@@ -8,7 +8,8 @@ use Rattle.fb_model.specs.Wires.{Source, Constant, followed, entered_in, fed, gi
 use Rattle.fb_types_blocks.proofs.Refused.{drop_step, drop_all}
 use Rattle.fb_types_networks.specs.declared.typed.Instance.{Instance}
 use Rattle.fb_types_networks.specs.declared.typed.Network.{Network}
-use Rattle.fb_types_networks.specs.Views.{parameter_of, body_of, placed_of, placed_in, instances_of}
+use Rattle.fb_types_networks.specs.Views.{parameter_of, body_of, placed_of, instances_of}
+use Rattle.fb_model.specs.NetworkFaults.{placed_in}
 use Rattle.fb_types_networks.proofs.Instances.{view_instance}
 use Rattle.fb_flat.specs.declared.site.Trail.{Trail}
 use Rattle.fb_flat.specs.declared.site.Around.{Around}

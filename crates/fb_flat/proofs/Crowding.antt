@@ -9,7 +9,7 @@ use Rattle.fb_types.specs.declared.typed.Resource.{Resource}
 use Rattle.fb_types.specs.declared.typed.Device.{Device}
 use Rattle.fb_types.specs.declared.typed.Configuration.{Configuration}
 use Rattle.fb_types.specs.Views.{resource_of, device_of, system_of, resource_offsets, system_offsets, offsets_in, all_offsets}
-use Rattle.fb_types.specs.Beforehand.{AnyCrowded, this_resource, later_resource, SomeCrowded, this_device, later_device, IsCrowdedSource}
+use Rattle.fb_model.specs.SourceFaults.{AnyCrowded, this_resource, later_resource, SomeCrowded, this_device, later_device, IsCrowdedSource}
 use Rattle.fb_flat.specs.Leaves.{IsFull}
 
 resources_crowded : (rs : List ResourceTree) (qs : List Resource) (at : ℕ) → resource_offsets qs ≡ offsets_in rs → Any (λ q. IsFull q at) qs → AnyCrowded rs (map resource_of qs) at
@@ -20,7 +20,7 @@ resources_crowded (r ∷ rs) (q ∷ qs) at e a =
     let more : resource_offsets qs ≡ offsets_in rs = cc in
     either_of (λ (h : IsFull q at). subst (AnyCrowded (r ∷ rs) (map resource_of (q ∷ qs))) (sym here ∙ sym h.1) (this_resource h.0)) (λ b. later_resource (resources_crowded rs qs at more b)) (any_cons q qs a)
 
-devices_crowded : (ts : List DeviceTree) (ds : List Device) (at : ℕ) → system_offsets ds ≡ all_offsets ts → Any (λ d. Any (λ q. IsFull q at) d.resources.items) ds → SomeCrowded ts (map device_of ds) at
+pub devices_crowded : (ts : List DeviceTree) (ds : List Device) (at : ℕ) → system_offsets ds ≡ all_offsets ts → Any (λ d. Any (λ q. IsFull q at) d.resources.items) ds → SomeCrowded ts (map device_of ds) at
 devices_crowded ts [] at e a = absurd (any_nil a)
 devices_crowded [] (d ∷ ds) at e a = absurd cc
 devices_crowded (t ∷ ts) (d ∷ ds) at e a =

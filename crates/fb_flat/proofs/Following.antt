@@ -19,7 +19,8 @@ use Rattle.fb_types_networks.specs.declared.typed.Body.TheOpen.{Body-F}
 use Rattle.fb_types_networks.specs.declared.typed.Instance.{Instance}
 use Rattle.fb_types_networks.specs.declared.typed.Connection.{Connection}
 use Rattle.fb_types_networks.specs.declared.typed.Network.{Network, out-Network}
-use Rattle.fb_types_networks.specs.Views.{Placed, Wired, placed_in, instances_of, connection_of, body_step, instance_step, network_step, body_of, placed_of, wired_of}
+use Rattle.fb_types_networks.specs.Views.{Wired, instances_of, connection_of, body_step, instance_step, network_step, body_of, placed_of, wired_of}
+use Rattle.fb_model.specs.NetworkFaults.{Placed, placed_in}
 use Rattle.fb_types_networks.proofs.Instances.{view_instance, view_network}
 use Rattle.fb_flat.specs.Sites.{inner_of, events_in}
 use Rattle.fb_flat.specs.Leaves.{values_in}

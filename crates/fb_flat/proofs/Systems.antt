@@ -9,8 +9,8 @@ use Rattle.std.proofs.lemmas.List.{take_more, map_push}
 use Rattle.std.proofs.lemmas.Option.{slice_get-map, slice_get_within, get_or_from_slice_get}
 use Rattle.fb_model.specs.Typing.{names_of}
 use Rattle.fb_types_blocks.specs.Views.{event_of}
-use Rattle.fb_types_blocks.specs.declared.fault.TypeFault.{TypeFault}
-use Rattle.fb_types_blocks.specs.declared.fault.TypeFault.TheVariants.{OutOfMemory, UnknownName, DuplicateName, TypeMismatch, BadLiteral, NotWritable, BadConnection, TwoSources, BadService, RecursiveComposite, Limit, ChannelShape}
+use Rattle.fb_faults.specs.declared.typing.TypeFault.{TypeFault}
+use Rattle.fb_faults.specs.declared.typing.TypeFault.TheVariants.{OutOfMemory, UnknownName, DuplicateName, TypeMismatch, BadLiteral, NotWritable, BadConnection, TwoSources, BadService, RecursiveComposite, Limit, ChannelShape}
 use Rattle.fb_flat.specs.Leaves.{IsLimitAt}
 
 -- ---- lists

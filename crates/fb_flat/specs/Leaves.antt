@@ -16,8 +16,8 @@ use Rattle.fb_types_networks.specs.declared.typed.Network.{Network}
 use Rattle.fb_types_networks.specs.Views.{wired_of, parameter_of, body_of}
 use Rattle.fb_types.specs.declared.typed.Resource.{Resource}
 use Rattle.fb_types.specs.Views.{resource_of}
-use Rattle.fb_types_blocks.specs.declared.fault.TypeFault.{TypeFault}
-use Rattle.fb_types_blocks.specs.declared.fault.TypeFault.TheVariants.{OutOfMemory, Limit}
+use Rattle.fb_faults.specs.declared.typing.TypeFault.{TypeFault}
+use Rattle.fb_faults.specs.declared.typing.TypeFault.TheVariants.{OutOfMemory, Limit}
 use Rattle.fb_flat.specs.declared.flat.Body.{Body}
 use Rattle.fb_flat.specs.declared.flat.Body.TheVariants as b
 use Rattle.fb_flat.specs.declared.flat.Output.{Output}

@@ -3,7 +3,8 @@ use Rattle.std.specs.Prelude.{ℕ, List, [], ◌∷◌, ◌++◌, Some, string_b
 use Rattle.fb_model.specs.Names.{Name, Path, Place}
 use Rattle.fb_model.specs.System as book
 use Rattle.fb_model.specs.Wires.{followed, entered_in, follow_count, enter_count_in}
-use Rattle.fb_types_networks.specs.Views.{placed_in, wired_of}
+use Rattle.fb_types_networks.specs.Views.{wired_of}
+use Rattle.fb_model.specs.NetworkFaults.{placed_in}
 use Rattle.fb_types_networks.specs.declared.typed.Network.{Network}
 use Rattle.fb_flat.specs.declared.site.Trail.{Trail, Resource, Inside'}
 use Rattle.fb_flat.specs.declared.site.Around.{Around, Nothing, Level'}

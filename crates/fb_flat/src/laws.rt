@@ -18,7 +18,7 @@ ghost use Rattle.fb_flat.specs.Sources.{written_inputs};
 ghost use Rattle.fb_flat.specs.Leaves.{flat_device, written_device, IsFull};
 ghost use Rattle.fb_types.specs.declared.typed.Configuration.{Configuration};
 ghost use Rattle.fb_types.specs.Views.{system_of, system_offsets, all_offsets};
-ghost use Rattle.fb_types.specs.Beforehand.{IsCrowdedSource};
+ghost use Rattle.fb_model.specs.SourceFaults.{IsCrowdedSource};
 ghost use Rattle.fb_flat.specs.Tables.{AreDevices};
 
 /// A path whose names are words is read back from its text.

@@ -6,8 +6,8 @@ use Rattle.std.proofs.lemmas.List.{append-nil}
 use Rattle.fb_model.specs.Tokens.{Kind, name, number, typed, duration, mark, Token, token}
 use Rattle.fb_model.specs.Spelling.{is_layout, IsLexeme, IsLongest, Fits, IsGap, OpensNone, Stands, Spells, end, gap, next, Leads, here, over_gap, over_token, IsBad, IsBig}
 use Rattle.fb_lex.specs.Scanning.{scan, closes_at, Between, past, unclosed, nothing, closed_or, gap_at, is_fit}
-use Rattle.fb_lex.specs.declared.fault.TextFault.{TextFault}
-use Rattle.fb_lex.specs.declared.fault.TextFault.TheVariants.{OutOfMemory, BadCharacter, Syntax, TooDeep, TooLong, BigNumber}
+use Rattle.fb_faults.specs.declared.text.TextFault.{TextFault}
+use Rattle.fb_faults.specs.declared.text.TextFault.TheVariants.{OutOfMemory, BadCharacter, Syntax, TooDeep, TooLong, BigNumber}
 use Rattle.fb_lex.specs.Lexing.{Passes, Sticks, Exceeds, Steps, Finds, Refuses, Gaps, no_gap, one_more}
 use Rattle.fb_lex.proofs.Words.{both_true}
 use Rattle.fb_lex.proofs.Sound.{ReadsKind, scan_sound}

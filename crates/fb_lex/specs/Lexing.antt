@@ -7,8 +7,8 @@ use Rattle.fb_model.specs.Spelling.{IsBad, IsBig, FirstAt, IsGap, text_limit}
 use Rattle.fb_lex.specs.declared.token.Token.{Token}
 use Rattle.fb_lex.specs.declared.token.Kind.{Kind}
 use Rattle.fb_lex.specs.declared.span.Unit.{Unit as TimeUnit}
-use Rattle.fb_lex.specs.declared.fault.TextFault.{TextFault}
-use Rattle.fb_lex.specs.declared.fault.TextFault.TheVariants.{OutOfMemory, BadCharacter, Syntax, TooDeep, TooLong, BigNumber}
+use Rattle.fb_faults.specs.declared.text.TextFault.{TextFault}
+use Rattle.fb_faults.specs.declared.text.TextFault.TheVariants.{OutOfMemory, BadCharacter, Syntax, TooDeep, TooLong, BigNumber}
 use Rattle.fb_lex.specs.Scanning.{is_fit, Between, past, unclosed, nothing, gap_at, scan}
 use Rattle.fb_lex.specs.Views.{kind_of, tokens_of}
 

@@ -1,4 +1,3 @@
-pub mod Faults
 pub mod Lexing
 pub mod Scanning
 pub mod Views

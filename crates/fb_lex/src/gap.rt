@@ -5,7 +5,7 @@ ghost use Rattle.fb_lex.specs.Scanning.{closes_at, begins_layout, gap_at};
 ghost use Rattle.fb_lex.specs.Lexing.{Closing, Gaps, Skips};
 
 use crate::characters::is_layout;
-use crate::fault::TextFault;
+use fb_faults::TextFault;
 
 /// What is left behind the `*)` that comes first.
 #[tactic(auto, unfolding(crate::specs::Scanning::closes_at))]

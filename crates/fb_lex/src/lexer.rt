@@ -3,12 +3,12 @@
 ghost use Rattle.std.specs.Prelude.{◌≡◌, ℕ, ◌≤◌, ◌<◌, List, length, false, IfOk, IfErr, Err};
 ghost use Rattle.fb_model.specs.Tokens as book;
 ghost use Rattle.fb_model.specs.Spelling.{Spells, FirstAt, IsBad, IsBig, text_limit};
-ghost use Rattle.fb_lex.specs.declared.fault.TextFault.TheVariants.{TooLong};
+ghost use Rattle.fb_faults.specs.declared.text.TextFault.TheVariants.{TooLong};
 ghost use Rattle.fb_lex.specs.Scanning.{begins_layout};
 ghost use Rattle.fb_lex.specs.Lexing.{Steps, Finds, Refuses};
 ghost use Rattle.fb_lex.specs.Views.{tokens_of};
 
-use crate::fault::TextFault;
+use fb_faults::TextFault;
 use crate::gap::{behind_layout, comment_at};
 use crate::scan::scan;
 use crate::token::Token;

@@ -3,7 +3,6 @@
 #![tactic(auto)]
 
 mod characters;
-mod fault;
 mod gap;
 mod lexer;
 mod literal;
@@ -14,6 +13,5 @@ mod span;
 mod token;
 mod word;
 
-pub use fault::TextFault;
 pub use lexer::{lex, one_fault, one_spelling};
 pub use token::{Kind, Token};

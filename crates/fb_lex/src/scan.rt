@@ -6,7 +6,7 @@ ghost use Rattle.fb_lex.specs.Scanning.{sign_at, marked, plain_at, word_at, begi
 ghost use Rattle.fb_lex.specs.Lexing.{Counts, Stays, GivesKind, Scans};
 
 use crate::characters::is_start;
-use crate::fault::TextFault;
+use fb_faults::TextFault;
 use crate::literal::literal_at;
 use crate::number::number_at;
 use crate::sign::sign_at;

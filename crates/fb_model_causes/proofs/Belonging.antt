@@ -6,7 +6,7 @@ use Rattle.fb_model.specs.Messages.{Message}
 use Rattle.fb_model.specs.Serving.{Send}
 use Rattle.fb_model.specs.Devices.{Admitted, Ran}
 use Rattle.fb_model.specs.World.{At_device, Deliver_datagram, A_dispatch, Answered}
-use Rattle.fb_model_causes.specs.Causes.{Cause, Happening, Dispatched, dispatch_in, Sends, Opens, Belongs, itself, caused, Told, nothing, adds, passes, skips, admission_in, admissions_told}
+use Rattle.fb_model.specs.Causes.{Cause, Happening, Dispatched, dispatch_in, Sends, Opens, Belongs, itself, caused, Told, nothing, adds, passes, skips, admission_in, admissions_told}
 use Rattle.fb_model_causes.proofs.Lists.{still, was_or_last}
 
 -- ---- later happenings

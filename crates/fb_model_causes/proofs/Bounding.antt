@@ -7,11 +7,11 @@ use Rattle.fb_model.specs.System.{System}
 use Rattle.fb_model.specs.Messages.{Message}
 use Rattle.fb_model.specs.Certificates.{Certificate, far_of}
 use Rattle.fb_model.specs.World.{Datagram, World, WorldEvent, WorldAnswer, WorldRun, IsFirst, PaysFar, AreWithin}
-use Rattle.fb_model_worlds.specs.Worlds.{IsOpened, AllHold}
+use Rattle.fb_model.specs.Worlds.{IsOpened, AllHold}
 use Rattle.fb_model_worlds.proofs.Beginning.{first_is_sound}
 use Rattle.fb_model_worlds.proofs.Running.{bounds_roots}
 use Rattle.fb_model_worlds.proofs.Cases.{at_number}
-use Rattle.fb_model_causes.specs.Causes.{Cause, Happening, trace_of, Belongs, IsPending, WasPending, IsArrival, Told, ToldWithin, HasArrivals}
+use Rattle.fb_model.specs.Causes.{Cause, Happening, trace_of, Belongs, IsPending, WasPending, IsArrival, Told, ToldWithin, HasArrivals}
 use Rattle.fb_model_causes.proofs.Lists.{AllFrom, from_at}
 use Rattle.fb_model_causes.proofs.Belonging.{told_once}
 use Rattle.fb_model_causes.proofs.Tied.{IsTold, Tied, same_root, told_all}

@@ -13,10 +13,10 @@ use Rattle.fb_model.specs.Headline.{IsKnown, IsOpen}
 use Rattle.fb_model.specs.World.{World, Root, machine_at, roots_before, first_root, IsFirst}
 use Rattle.fb_model.proofs.Lists.{all_weaker, all_both}
 use Rattle.fb_model.proofs.Starting.{first_sound}
-use Rattle.fb_model_worlds.specs.Worlds.{IsOpened, AllHold}
+use Rattle.fb_model.specs.Worlds.{IsOpened, AllHold}
 use Rattle.fb_model_worlds.proofs.Beginning.{numbered_first, at_every}
 use Rattle.fb_model_worlds.proofs.Opening.{admits_begun, first_begins}
-use Rattle.fb_model_causes.specs.Causes.{Cause, Belongs, itself, HasOpened, IsPending}
+use Rattle.fb_model.specs.Causes.{Cause, Belongs, itself, HasOpened, IsPending}
 use Rattle.fb_model_causes.proofs.Lists.{there_is, AllFrom}
 use Rattle.fb_model_causes.proofs.Putting.{open_is}
 use Rattle.fb_model_causes.proofs.Tied.{IsRooted, IsTold, Tied}

@@ -13,8 +13,8 @@ use Rattle.fb_model.proofs.Lists.{all_append, all_weaker, all_both}
 use Rattle.fb_model.proofs.Running.{put_all}
 use Rattle.fb_model_worlds.proofs.Growing.{Grows}
 use Rattle.fb_model_worlds.proofs.Sounding.{all_suffix}
-use Rattle.fb_model_worlds.specs.Worlds.{IsOpened}
-use Rattle.fb_model_causes.specs.Causes.{Cause, Happening, Belongs, itself, HasOpened, IsArrival, IsPending}
+use Rattle.fb_model.specs.Worlds.{IsOpened}
+use Rattle.fb_model.specs.Causes.{Cause, Happening, Belongs, itself, HasOpened, IsArrival, IsPending}
 use Rattle.fb_model_causes.proofs.Lists.{there_is, AllFrom, Carries}
 use Rattle.fb_model_causes.proofs.Belonging.{steps_same, steps_none, steps_of, all_of_weaker}
 use Rattle.fb_model_causes.proofs.Putting.{put_here, put_other, machine_here, machine_other, at_machine, roots_before_these, roots_of_these, open_is}

@@ -6,11 +6,11 @@ use Rattle.fb_model.specs.System.{System}
 use Rattle.fb_model.specs.Certificates.{Certificate}
 use Rattle.fb_model.specs.Devices.{Admitted, Denied, Expired, Idle, Ran, numbers_in}
 use Rattle.fb_model.specs.World.{World, WorldEvent, At_device, Deliver_datagram, An_offer, A_tick, A_dispatch, WorldAnswer, Answered, Unknown, WorldHappens, WorldRun}
-use Rattle.fb_model_worlds.specs.Worlds.{IsOpened, AllHold, IsWorldSound}
+use Rattle.fb_model.specs.Worlds.{IsOpened, AllHold, IsWorldSound}
 use Rattle.fb_model_worlds.proofs.Growing.{offer_grows, tick_grows}
 use Rattle.fb_model_worlds.proofs.Cases.{device_holds}
 use Rattle.fb_model_worlds.proofs.Sounding.{sound_event}
-use Rattle.fb_model_causes.specs.Causes.{Cause, Happening, trace_of, HasOpened, IsPending, WasPending, AtEach, AreArrivals}
+use Rattle.fb_model.specs.Causes.{Cause, Happening, trace_of, HasOpened, IsPending, WasPending, AtEach, AreArrivals}
 use Rattle.fb_model_causes.proofs.Lists.{append_nothing, append_again}
 use Rattle.fb_model_causes.proofs.Belonging.{opens_still}
 use Rattle.fb_model_causes.proofs.Tied.{Tied, IsQuiet, quietly, Goes, are_arrivals, one_root, pending_opened, opening_alone}

@@ -12,8 +12,8 @@ use Rattle.fb_model.specs.Devices.{Ended, Entry, Machine, put, Ran, follow_ups, 
 use Rattle.fb_model.specs.World.{Root, World, At_device, A_dispatch, WorldAnswer, Answered, Datagram, AddsSteps, posted, number_sent, stepped, forgotten}
 use Rattle.fb_model.proofs.Lists.{all_append, all_both}
 use Rattle.fb_model.proofs.Running.{put_all}
-use Rattle.fb_model_worlds.specs.Worlds.{IsOpened, IsWorldSound}
-use Rattle.fb_model_causes.specs.Causes.{Cause, Happening, Dispatched, dispatch_in, Sends, Opens, HasOpened}
+use Rattle.fb_model.specs.Worlds.{IsOpened, IsWorldSound}
+use Rattle.fb_model.specs.Causes.{Cause, Happening, Dispatched, dispatch_in, Sends, Opens, HasOpened}
 use Rattle.fb_model_causes.proofs.Lists.{at_end, was_or_last, AllFrom, from_weaker, from_end, length-end, Carries, carries_still, carries_below}
 use Rattle.fb_model_causes.proofs.Belonging.{opens_before, opens_still, belongs_still, steps_end, steps_of, all_of_weaker}
 use Rattle.fb_model_causes.proofs.Putting.{put_here, put_other, at_machine}

@@ -11,8 +11,8 @@ use Rattle.fb_model.specs.World.{Root, World, At_device, Deliver_datagram, A_dis
 use Rattle.fb_model.proofs.Lists.{all_append, all_weaker}
 use Rattle.fb_model.proofs.Running.{put_all}
 use Rattle.fb_model_worlds.proofs.Sounding.{bumped}
-use Rattle.fb_model_worlds.specs.Worlds.{IsOpened}
-use Rattle.fb_model_causes.specs.Causes.{Cause, Happening, Opens, Belongs, caused, HasOpened, IsArrival, admission_in, admissions_told}
+use Rattle.fb_model.specs.Worlds.{IsOpened}
+use Rattle.fb_model.specs.Causes.{Cause, Happening, Opens, Belongs, caused, HasOpened, IsArrival, admission_in, admissions_told}
 use Rattle.fb_model_causes.proofs.Lists.{index_below, at_end, was_or_last, AllFrom, from_at, from_admitted, length-admitted, Carries, carries_admitted}
 use Rattle.fb_model_causes.proofs.Belonging.{sends_still, opens_still, belongs_still, sends_before, one_if, another_datagram, this_datagram, admissions_end, steps_end, steps_same, steps_of, all_of_weaker}
 use Rattle.fb_model_causes.proofs.Putting.{put_here, put_other, machine_here, machine_other, at_machine}

@@ -8,8 +8,8 @@ use Rattle.fb_model.specs.Messages.{Message}
 use Rattle.fb_model.specs.Devices.{Entry}
 use Rattle.fb_model.specs.Headline.{IsOpen}
 use Rattle.fb_model.specs.World.{Datagram, World}
-use Rattle.fb_model_worlds.specs.Worlds.{IsOpened}
-use Rattle.fb_model_causes.specs.Causes.{Cause, Happening, Dispatched, dispatch_in, Sends, Opens, Belongs, itself, caused, HasOpened, IsArrival, Told, nothing, adds, passes, skips, IsPending, AreArrivals, admission_in, admissions_told}
+use Rattle.fb_model.specs.Worlds.{IsOpened}
+use Rattle.fb_model.specs.Causes.{Cause, Happening, Dispatched, dispatch_in, Sends, Opens, Belongs, itself, caused, HasOpened, IsArrival, Told, nothing, adds, passes, skips, IsPending, AreArrivals, admission_in, admissions_told}
 use Rattle.fb_model_causes.proofs.Lists.{AllFrom, from_weaker, Carries}
 use Rattle.fb_model_causes.proofs.Belonging.{sends_still, opens_before, opens_still, belongs_still, sends_before, admissions_end, steps_end, steps_of, told_here, IsOf, AreOf}
 

@@ -8,8 +8,8 @@ ghost use Rattle.std.specs.Prelude.{ℕ, ◌≡◌, List, Some};
 ghost use Rattle.fb_model.specs.Certificates.{Certificate};
 ghost use Rattle.fb_model.specs.System.{System};
 ghost use Rattle.fb_model.specs.World.{World, WorldEvent, WorldAnswer, WorldRun, IsFirst, PaysFar};
-ghost use Rattle.fb_model_worlds.specs.Worlds.{AllHold};
-ghost use Rattle.fb_model_causes.specs.Causes.{HasArrivals, BoundsArrivals};
+ghost use Rattle.fb_model.specs.Worlds.{AllHold};
+ghost use Rattle.fb_model.specs.Causes.{HasArrivals, BoundsArrivals};
 
 /// Over every run from a first world, its roots are its arrivals, one each, with the opening of the arrival's entries, and with the steps that
 /// the answers told of all dispatches which belong to it, at each moment of the run.

@@ -9,7 +9,7 @@ use Rattle.fb_model.specs.Wires.{Source, Output_of, Constant, Leaf, leaves}
 use Rattle.fb_model.specs.Spans.{Span, within}
 use Rattle.fb_model.specs.Ranges.{Range, variables, row_of, rows, SourceFits}
 use Rattle.fb_model.proofs.Lists.{all_weaker, all_both}
-use Rattle.fb_model_laws.specs.FinderRanges.{IsLast, AreFound}
+use Rattle.fb_model.specs.FinderRanges.{IsLast, AreFound}
 use Rattle.fb_model_laws.specs.Devices.{FindsAlike, FindsItsLast}
 use Rattle.fb_model_laws.specs.Holding.{IsGoodRow, LeafIsGood, LeafIsFed}
 use Rattle.fb_model_laws.proofs.Feeding.{at_leaf, all_last_rows_hold}

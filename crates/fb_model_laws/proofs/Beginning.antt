@@ -18,7 +18,7 @@ use Rattle.fb_model.proofs.Names.{eq_turned}
 use Rattle.fb_model_laws.specs.Leaves.{OnChart}
 use Rattle.fb_model_laws.proofs.Charts.{on_charts}
 use Rattle.fb_model_laws.proofs.Typed.{apart_right}
-use Rattle.fb_model_laws.specs.FinderRanges.{first_value}
+use Rattle.fb_model.specs.FinderRanges.{first_value}
 use Rattle.fb_model_laws.specs.Holding.{IsGoodRow, LeafIsGood, LeafIsFed, ChartBegins}
 
 -- ---- names

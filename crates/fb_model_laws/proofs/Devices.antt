@@ -16,7 +16,7 @@ use Rattle.fb_model.proofs.Lists.{all_append, all_weaker, all_both}
 use Rattle.fb_model.proofs.Placed.{Apart, apart}
 use Rattle.fb_model.proofs.Names.{eq_turned}
 use Rattle.fb_model_laws.proofs.Paths.{resource_body}
-use Rattle.fb_model_laws.specs.FinderRanges.{range_row, rows_by, kind_rows, leaf_rows, IsLast, AreFound, no_device, a_device}
+use Rattle.fb_model.specs.FinderRanges.{range_row, rows_by, kind_rows, leaf_rows, IsLast, AreFound, no_device, a_device}
 use Rattle.fb_model_laws.specs.Devices.{FindsAlike, FindsItsLast}
 use Rattle.fb_model_laws.proofs.Places.{last_rows}
 

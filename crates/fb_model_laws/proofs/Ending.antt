@@ -6,7 +6,7 @@ use Rattle.fb_model.specs.TypedText.{Command, set, set_part, choose, match_on, c
 use Rattle.fb_model.specs.Language.{Algorithm}
 use Rattle.fb_model.specs.Spans.{Span, span, within, joined}
 use Rattle.fb_model.specs.Clear.{Spans, Found, Clear, Leaves, Traps, changed, range_of, narrowed, onward, costing, with_range, either, assigned, are_kept, reset, most_iterations, taken, left_with, looped, examine_one, examine, examine_choices, examine_cases}
-use Rattle.fb_model_laws.specs.Asking.{Asked, point, met, range_in, asked_loop, ask_one, ask, ask_choices, ask_cases}
+use Rattle.fb_model.specs.Asking.{Asked, point, met, range_in, asked_loop, ask_one, ask, ask_choices, ask_cases}
 use Rattle.fb_model_laws.proofs.Ranging.{ranged}
 
 -- where all is clear, it ends with these ranges

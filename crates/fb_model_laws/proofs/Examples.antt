@@ -9,7 +9,7 @@ use Rattle.fb_model.specs.System.{Service}
 use Rattle.fb_model.specs.Services.{req, init, rsp, arrive}
 use Rattle.fb_model.specs.Wires.{Serviced, Leaf, Constant}
 use Rattle.fb_model.specs.Certificates.{channels_of, required, Far_rows}
-use Rattle.fb_model_laws.specs.Demands.{event, channel, channel_demands, linked, bare, of_dispatch}
+use Rattle.fb_model.specs.Demands.{event, channel, channel_demands, linked, bare, of_dispatch}
 
 abbrev leaf_of : Name → Service → Leaf
 leaf_of name service = record { home = 0; path = name ∷ []; kind = Serviced service; targets = λ o. []; source = λ i. Constant (One (pos 0)) }

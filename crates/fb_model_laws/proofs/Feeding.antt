@@ -17,7 +17,7 @@ use Rattle.fb_model.proofs.Lists.{same_name, same_path, all_both}
 use Rattle.fb_model_laws.specs.Leaves.{AreApart, IsGivenBy, Yields, Feeds, IsFed}
 use Rattle.fb_model_laws.proofs.Paths.{all_apart}
 use Rattle.fb_model_laws.proofs.Values.{all_fed}
-use Rattle.fb_model_laws.specs.FinderRanges.{fed, worked, asked, widened, start_rows, Settles, IsLast}
+use Rattle.fb_model.specs.FinderRanges.{fed, worked, asked, widened, start_rows, Settles, IsLast}
 use Rattle.fb_model_laws.specs.Holding.{IsGoodRow, LeafIsGood, LeafIsFed}
 use Rattle.fb_model_laws.proofs.Spans.{Inside, inside_is, inside_within, stays_holds}
 use Rattle.fb_model_laws.proofs.Looking.{settled, RowsStand, rows_stand}

@@ -13,7 +13,7 @@ use Rattle.fb_model.specs.Spans.{Span, span, whole}
 use Rattle.fb_model.specs.Ranges.{Range, variables, row_of}
 use Rattle.fb_model.specs.Certificates.{is_boolean}
 use Rattle.fb_model_laws.specs.Leaves.{AreApart, IsFed}
-use Rattle.fb_model_laws.specs.FinderRanges.{held, first_value, range_row, rows_by, kind_rows, leaf_rows, asked, widened, round, start_rows, Settles, ends, goes_on}
+use Rattle.fb_model.specs.FinderRanges.{held, first_value, range_row, rows_by, kind_rows, leaf_rows, asked, widened, round, start_rows, Settles, ends, goes_on}
 use Rattle.fb_model_laws.proofs.Looking.{settled, RowsStand, rows_stand}
 use Rattle.fb_model_laws.proofs.HoldingRows.{all_own}
 

@@ -7,7 +7,7 @@ use Rattle.fb_model.specs.TypedText.{Command, set, set_part, choose, match_on, c
 use Rattle.fb_model.specs.Language.{Algorithm}
 use Rattle.fb_model.specs.Spans.{Span, within, joined}
 use Rattle.fb_model.specs.Clear.{Spans, changed, narrowed, assigned, reset, most_iterations, taken}
-use Rattle.fb_model_laws.specs.Asking.{Asked, point, range_in, asking, asking_all, asked_loop, ask_one, ask, ask_choices, ask_cases, grown}
+use Rattle.fb_model.specs.Asking.{Asked, point, range_in, asking, asking_all, asked_loop, ask_one, ask, ask_choices, ask_cases, grown}
 use Rattle.fb_model_laws.proofs.Ranging.{within_same, within_on, within_joined}
 
 -- each row lies in the one that it has grown to

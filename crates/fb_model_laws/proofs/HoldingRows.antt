@@ -15,7 +15,7 @@ use Rattle.fb_model.specs.Ranges.{Range, variables, row_of}
 use Rattle.fb_model.specs.Certificates.{is_boolean}
 use Rattle.fb_model.proofs.Lists.{same_name, all_append, all_weaker, all_both}
 use Rattle.fb_model_laws.specs.Leaves.{AreApart, HasType, AreFirst, StartsFit, IsGoodKind, Yields, Feeds, IsFed}
-use Rattle.fb_model_laws.specs.FinderRanges.{held, first_value, fed, asked, widened, round, start_rows, Settles, ends, goes_on}
+use Rattle.fb_model.specs.FinderRanges.{held, first_value, fed, asked, widened, round, start_rows, Settles, ends, goes_on}
 use Rattle.fb_model_laws.specs.Holding.{IsGoodRow, LeafIsGood}
 use Rattle.fb_model_laws.proofs.Spans.{Inside, inside_is, inside_within, in_more, held_holds, held_typed, widened_typed, widened_more}
 use Rattle.fb_model_laws.proofs.Looking.{settled, AreSame, AreOwn, RowsStand, rows_stand}

@@ -9,7 +9,7 @@ use Rattle.fb_model.specs.Services.{service_events, can_emit, init}
 use Rattle.fb_model.specs.Wires.{Kind, Charted, Serviced}
 use Rattle.fb_model.specs.Charts.{actions_of, is_open, emission}
 use Rattle.fb_model.specs.Certificates.{reached, event_names}
-use Rattle.fb_model_laws.specs.Demands.{Node, state, event, Demand, IsMet, Ground, emitted, of_state, free_demand, of_free, crossing_demand, of_crossing, of_input, sent, of_dispatch, of_kind}
+use Rattle.fb_model.specs.Demands.{Node, state, event, Demand, IsMet, Ground, emitted, of_state, free_demand, of_free, crossing_demand, of_crossing, of_input, sent, of_dispatch, of_kind}
 use Rattle.fb_model_laws.specs.Likeness.{AreLike, LeadAlike, AreGroundsAlike}
 
 pub like_append : (P : ℕ → ℕ → Type 0) (ds es fs gs : List Demand) → AreLike P ds es → AreLike P fs gs → AreLike P (ds ++ fs) (es ++ gs)

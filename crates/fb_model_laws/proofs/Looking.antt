@@ -13,7 +13,7 @@ use Rattle.fb_model.proofs.Lists.{all_weaker, all_both}
 use Rattle.fb_model.proofs.Placed.{path_same}
 use Rattle.fb_model.proofs.Names.{eq_turned}
 use Rattle.fb_model_laws.specs.Leaves.{AreApart}
-use Rattle.fb_model_laws.specs.FinderRanges.{range_row, rows_by, kind_rows, leaf_rows}
+use Rattle.fb_model.specs.FinderRanges.{range_row, rows_by, kind_rows, leaf_rows}
 
 -- the row that a variable then has: all of its type where it is BOOL, or of a service
 abbrev pub settled : Kind → Variable → Span → Span

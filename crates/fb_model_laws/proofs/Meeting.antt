@@ -12,8 +12,8 @@ use Rattle.fb_model.specs.Wires.{Kind, Charted, Serviced, Leaf}
 use Rattle.fb_model.specs.Charts.{actions_of, is_open, emission}
 use Rattle.fb_model.specs.Ranges.{Range, rows}
 use Rattle.fb_model.specs.Certificates.{Column, reached, action_load, own, StateFits, FreeFits, CrossingFits, InputFits, ChartFits, EventFits, sending_of, KindWeighs, ColumnFits, event_names}
-use Rattle.fb_model_laws.specs.Demands.{Node, state, event, channel, IsMet, Ground, sent, linked, work, emitted, of_state, of_free, of_crossing, of_input, of_chart, of_dispatch, of_kind}
-use Rattle.fb_model_laws.specs.Columns.{number_of, price_of, ground_of, demands, MeetAll}
+use Rattle.fb_model.specs.Demands.{Node, state, event, channel, IsMet, Ground, sent, linked, work, emitted, of_state, of_free, of_crossing, of_input, of_chart, of_dispatch, of_kind}
+use Rattle.fb_model.specs.Columns.{number_of, price_of, ground_of, demands, MeetAll}
 use Rattle.fb_model_laws.proofs.Lists.{sum_by-map, all_append, all_flat, all_map}
 
 -- a column in which datagrams ask for what they cost

@@ -14,8 +14,8 @@ use Rattle.fb_model.specs.Wires.{Kind, Charted, Serviced, Leaf, leaves}
 use Rattle.fb_model.specs.Ranges.{Range, rows}
 use Rattle.fb_model.specs.Certificates.{Certificate, Column, KindWeighs, ColumnFits, far_of, all_leaves, admissions, channel_load, FarFits, channels_of, Fits}
 use Rattle.fb_model.proofs.Networks.{is_one, unnamed_load}
-use Rattle.fb_model_laws.specs.Demands.{Node, event, Demand, IsMet, of_kind, linked, heard, of_channel, channel_demands, bare, bare_network, IsClosedWalk}
-use Rattle.fb_model_laws.specs.Columns.{number_of, ground_of, network_demands, MeetAll}
+use Rattle.fb_model.specs.Demands.{Node, event, Demand, IsMet, of_kind, linked, heard, of_channel, channel_demands, bare, bare_network, IsClosedWalk}
+use Rattle.fb_model.specs.Columns.{number_of, ground_of, network_demands, MeetAll}
 use Rattle.fb_model_laws.specs.Likeness.{AreGroundsAlike}
 use Rattle.fb_model_laws.proofs.Lists.{all_append}
 use Rattle.fb_model_laws.proofs.Likening.{like_flat, kind_alike, met_alike}

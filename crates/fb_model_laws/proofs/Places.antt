@@ -7,7 +7,7 @@ use Rattle.fb_model.specs.Wires.{Kind, Charted, Serviced, Leaf, leaves}
 use Rattle.fb_model.specs.Spans.{Span}
 use Rattle.fb_model.specs.Ranges.{Range, variables, row_of}
 use Rattle.fb_model.specs.Certificates.{is_boolean, all_leaves, ranged_variables, of_kind, ranged, range_places}
-use Rattle.fb_model_laws.specs.FinderRanges.{held, first_value, range_row, rows_by, kind_rows, leaf_rows, asked, widened, round, start_rows, Settles, ends, goes_on, IsLast, AreFound, no_device, a_device}
+use Rattle.fb_model.specs.FinderRanges.{held, first_value, range_row, rows_by, kind_rows, leaf_rows, asked, widened, round, start_rows, Settles, ends, goes_on, IsLast, AreFound, no_device, a_device}
 use Rattle.fb_model_laws.proofs.Rounding.{one_end}
 
 -- what holds of all rows that leaves are given holds of those of the last round

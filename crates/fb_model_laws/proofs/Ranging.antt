@@ -11,7 +11,7 @@ use Rattle.fb_model.specs.Language.{given}
 use Rattle.fb_model.specs.Spans.{Span, span, whole, within, joined, range_one, range_two}
 use Rattle.fb_model.specs.Clear.{Spans, Found, Traps, range_of, with_range}
 use Rattle.fb_model.proofs.Results.{and_left, and_right}
-use Rattle.fb_model_laws.specs.Asking.{range_in}
+use Rattle.fb_model.specs.Asking.{range_in}
 
 one_is : (f : Operation) (a : ElemType) (o : Option Span) (p r : Span) → ((q : Span) → o ≡ Some q → p ≡ q) → given o (range_one f a) ≡ Some r → unwrap_or (range_one f a p) (whole a) ≡ r
 one_is f a None p r h e = cc

@@ -2,7 +2,7 @@
 use Rattle.std.proofs.Common.{ℕ, ◌≡◌, ◌+◌, List, refl}
 use Rattle.fb_model.specs.Ranges.{Range}
 use Rattle.fb_model.specs.Wires.{Leaf}
-use Rattle.fb_model_laws.specs.FinderRanges.{round, Settles, ends, goes_on}
+use Rattle.fb_model.specs.FinderRanges.{round, Settles, ends, goes_on}
 
 pub one_end : (all : List Leaf) (n : ℕ) (xs ys zs : List Range) → Settles all n xs ys → Settles all n xs zs → ys ≡ zs
 one_end all n xs ys zs (ends e) (ends f) = refl

@@ -8,7 +8,7 @@ use Rattle.fb_words.proofs.Types.{bounded, lt_true, lt_false, le_true, le_is}
 use Rattle.fb_model.specs.Values.{lowest, highest}
 use Rattle.fb_model.specs.Spans.{Span, span, within, joined, whole}
 use Rattle.fb_model.specs.Shapes.{IsIn}
-use Rattle.fb_model_laws.specs.FinderRanges.{held, widened}
+use Rattle.fb_model.specs.FinderRanges.{held, widened}
 
 -- a range within another, by its ends
 pub record Inside (r s : Span) : Type 0 where

@@ -7,7 +7,7 @@ use Rattle.fb_model.specs.Language.{Algorithm}
 use Rattle.fb_model.specs.Spans.{Span, span, within, joined}
 use Rattle.fb_model.specs.Clear.{Spans, Found, Clear, Leaves, Traps, changed, range_of, narrowed, onward, costing, with_range, either, assigned, are_kept, reset, most_iterations, taken, left_with, looped, kept, examine_one, examine, examine_choices, examine_cases, examined}
 use Rattle.std.proofs.lemmas.Slice.Eq.{bytes_eq-Decides}
-use Rattle.fb_model_laws.specs.Asking.{Asked, point, range_in, asking, asking_all, asked_loop, ask_one, ask, ask_choices, ask_cases, grown}
+use Rattle.fb_model.specs.Asking.{Asked, point, range_in, asking, asking_all, asked_loop, ask_one, ask, ask_choices, ask_cases, grown}
 use Rattle.fb_model_laws.proofs.Ranging.{ranged, within_on, within_other}
 use Rattle.fb_model_laws.proofs.Ending.{Ends, ends, ends_one}
 use Rattle.fb_model_laws.proofs.Growing.{Grows, grows_on, asking_all_grows, all_grows, choices_grow, cases_grow}

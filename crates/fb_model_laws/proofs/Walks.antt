@@ -11,8 +11,8 @@ use Rattle.fb_model.specs.Charts.{emission}
 use Rattle.fb_model.specs.Wires.{Kind, Charted, Serviced, Leaf, leaves}
 use Rattle.fb_model.specs.Ranges.{Range}
 use Rattle.fb_model.specs.Certificates.{Certificate, steps_of, Fits, DeviceFits, all_leaves, reached}
-use Rattle.fb_model_laws.specs.Demands.{Node, Demand, IsMet, Ground, work, of_kind, bare, bare_demands, Asks, node_in, IsClosedWalk}
-use Rattle.fb_model_laws.specs.Columns.{number_of, ground_of, demands, MeetAll}
+use Rattle.fb_model.specs.Demands.{Node, Demand, IsMet, Ground, work, of_kind, bare, bare_demands, Asks, node_in, IsClosedWalk}
+use Rattle.fb_model.specs.Columns.{number_of, ground_of, demands, MeetAll}
 use Rattle.fb_model_laws.specs.Likeness.{AreLike, LeadAlike, KindLeadsAlike, AreGroundsAlike}
 use Rattle.fb_model_laws.proofs.Lists.{all_append}
 use Rattle.fb_model_laws.proofs.Likening.{like_append, kind_alike, met_alike}

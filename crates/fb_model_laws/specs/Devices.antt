@@ -5,7 +5,7 @@ use Rattle.fb_model.specs.Names.{Name}
 use Rattle.fb_model.specs.System.{Variable, Device}
 use Rattle.fb_model.specs.Wires.{Leaf, leaves}
 use Rattle.fb_model.specs.Ranges.{Range, row_of, rows}
-use Rattle.fb_model_laws.specs.FinderRanges.{IsLast}
+use Rattle.fb_model.specs.FinderRanges.{IsLast}
 
 -- a leaf finds the same row in two lists, for each of its variables and by each name
 pub record FindsAlike (ranges own : List Range) (leaf : Leaf) : Type 0 where

@@ -9,7 +9,7 @@ use Rattle.fb_model.specs.Store.{first_input}
 use Rattle.fb_model.specs.Spans.{Span, within, whole}
 use Rattle.fb_model.specs.Shapes.{IsIn}
 use Rattle.fb_model.specs.Ranges.{Range, variables, row_at, row_of, HoldsIn, SourceFits}
-use Rattle.fb_model_laws.specs.FinderRanges.{first_value}
+use Rattle.fb_model.specs.FinderRanges.{first_value}
 
 -- a row lies in the type of its variable, and holds what this has at first
 pub record IsGoodRow (leaf : Leaf) (v : Variable) (r : Span) : Type 0 where

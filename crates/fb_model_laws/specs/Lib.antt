@@ -1,10 +1,6 @@
 pub mod Words
 pub mod Leaves
 pub mod Shaped
-pub mod Asking
-pub mod FinderRanges
 pub mod Devices
 pub mod Holding
-pub mod Demands
-pub mod Columns
 pub mod Likeness

@@ -7,7 +7,7 @@ use Rattle.fb_model.specs.Services.{service_events, can_emit}
 use Rattle.fb_model.specs.Wires.{Kind, Charted, Serviced}
 use Rattle.fb_model.specs.Charts.{emission}
 use Rattle.fb_model.specs.Certificates.{reached}
-use Rattle.fb_model_laws.specs.Demands.{Demand, Ground, work}
+use Rattle.fb_model.specs.Demands.{Demand, Ground, work}
 
 -- one by one they are of the same node and terms, and their constants are so to each other
 abbrev pub AreLike : (ℕ → ℕ → Type 0) → List Demand → List Demand → Type 0

@@ -5,7 +5,7 @@ ghost use Rattle.fb_model.specs.Names.{Name};
 ghost use Rattle.fb_model.specs.Language.{Algorithm};
 ghost use Rattle.fb_model.specs.Spans.{within};
 ghost use Rattle.fb_model.specs.Clear.{Spans, Leaves, examined};
-ghost use Rattle.fb_model_laws.specs.Asking.{grown};
+ghost use Rattle.fb_model.specs.Asking.{grown};
 
 /// What an algorithm asks only enlarges rows.
 pub fn rows_only_grow()

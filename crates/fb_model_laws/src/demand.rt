@@ -5,8 +5,8 @@ ghost use Rattle.fb_model.specs.Ranges.{Range};
 ghost use Rattle.fb_model.specs.Wires.{Leaf};
 ghost use Rattle.fb_model.specs.System.{System};
 ghost use Rattle.fb_model.specs.Certificates.{all_leaves, far_of, Certificate, Column, ColumnFits, FarFits, Fits};
-ghost use Rattle.fb_model_laws.specs.Demands.{bare_demands, bare_network, IsClosedWalk, Node};
-ghost use Rattle.fb_model_laws.specs.Columns.{number_of, demands, network_demands, MeetAll};
+ghost use Rattle.fb_model.specs.Demands.{bare_demands, bare_network, IsClosedWalk, Node};
+ghost use Rattle.fb_model.specs.Columns.{number_of, demands, network_demands, MeetAll};
 
 /// A column without datagrams pays exactly where its numbers meet all demands.
 pub fn columns_meet_demands()

@@ -9,7 +9,7 @@ ghost use Rattle.fb_model.specs.Ranges.{Range};
 ghost use Rattle.fb_model.specs.System.{Block, Device, System};
 ghost use Rattle.fb_model.specs.Wires.{Charted, Leaf, leaves};
 ghost use Rattle.fb_model_laws.specs.Devices.{FindsItsLast};
-ghost use Rattle.fb_model_laws.specs.FinderRanges.{AreFound, IsLast, Settles};
+ghost use Rattle.fb_model.specs.FinderRanges.{AreFound, IsLast, Settles};
 ghost use Rattle.fb_model_laws.specs.Holding.{ChartBegins, LeafIsFed, LeafIsGood};
 
 /// From one round on, rows come to one end.

@@ -14,7 +14,7 @@ use Rattle.fb_model.proofs.Bounding.{extends_admitted}
 use Rattle.fb_model.proofs.Homes.{homes}
 use Rattle.fb_model.proofs.Lists.{all_append, all_weaker, all_both}
 use Rattle.fb_model.proofs.Starting.{first_sound}
-use Rattle.fb_model_worlds.specs.Worlds.{AllHold, IsOpened, IsSent, IsWorldSound}
+use Rattle.fb_model.specs.Worlds.{AllHold, IsOpened, IsSent, IsWorldSound}
 use Rattle.fb_model_worlds.proofs.Growing.{IsEmptyFrom, admitted_within}
 use Rattle.fb_model_worlds.proofs.Cases.{at_number}
 

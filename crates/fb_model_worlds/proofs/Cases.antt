@@ -12,7 +12,7 @@ use Rattle.fb_model.specs.Devices.{Ended, Machine, Admitted, Denied, Expired, Id
 use Rattle.fb_model.specs.Headline.{IsSound}
 use Rattle.fb_model.specs.World.{Datagram, World, WorldEvent, At_device, Deliver_datagram, An_offer, A_tick, A_dispatch, WorldAnswer, Answered, Unknown, OpensCauses, AddsSteps, AdmitsDatagram, WorldHappens}
 use Rattle.fb_model.proofs.Admitting.{sound_next}
-use Rattle.fb_model_worlds.specs.Worlds.{AllHold, IsSent, IsWorldSound, dispatches_of}
+use Rattle.fb_model.specs.Worlds.{AllHold, IsSent, IsWorldSound, dispatches_of}
 use Rattle.fb_model_worlds.proofs.Spelling.{spells_one}
 use Rattle.fb_model_worlds.proofs.Growing.{Grows, offer_grows, tick_grows}
 

@@ -17,7 +17,7 @@ use Rattle.fb_model.proofs.Ending.{serves_one}
 use Rattle.fb_model.proofs.Far.{dispatch_falls, delivery_falls, opening_keeps}
 use Rattle.fb_model.proofs.Lists.{all_weaker}
 use Rattle.fb_model.proofs.Running.{at_first_leaf}
-use Rattle.fb_model_worlds.specs.Worlds.{AllHold, IsOpened, IsSent, IsWorldSound, dispatches_of, MeasureFalls}
+use Rattle.fb_model.specs.Worlds.{AllHold, IsOpened, IsSent, IsWorldSound, dispatches_of, MeasureFalls}
 use Rattle.fb_model_worlds.proofs.Opening.{opening_begins}
 use Rattle.fb_model_worlds.proofs.Cases.{at_number, Admits, Case, rests, opens, serves, takes, device_holds}
 use Rattle.fb_model_worlds.proofs.Growing.{Grows}

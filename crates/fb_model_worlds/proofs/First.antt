@@ -11,7 +11,7 @@ use Rattle.fb_model.specs.Headline.{IsKnown, IsSound}
 use Rattle.fb_model.specs.World.{World, machine_at, roots_before, first_root, IsFirst}
 use Rattle.fb_model.proofs.Lists.{all_weaker, all_both}
 use Rattle.fb_model.proofs.Starting.{first_sound}
-use Rattle.fb_model_worlds.specs.Worlds.{AllHold}
+use Rattle.fb_model.specs.Worlds.{AllHold}
 use Rattle.fb_model_worlds.proofs.Beginning.{numbered_first, at_every}
 
 module _ (cert : Certificate) where

@@ -9,7 +9,7 @@ use Rattle.fb_model.specs.Devices.{Machine, put, Answer, Admitted, Denied, Expir
 use Rattle.fb_model.specs.Headline.{IsKnown}
 use Rattle.fb_model.specs.World.{Datagram, World, Root, Local, An_offer, A_tick, A_dispatch, At_device, Deliver_datagram, Answered, local_event, IsDelivered, OpensCauses, roots_from, posted, number_sent, stepped, forgotten, admitted_at, WorldHappens}
 use Rattle.fb_model.proofs.Lists.{all_weaker}
-use Rattle.fb_model_worlds.specs.Worlds.{AllHold, IsWorldSound, GoesOn}
+use Rattle.fb_model.specs.Worlds.{AllHold, IsWorldSound, GoesOn}
 use Rattle.fb_model_worlds.proofs.Cases.{device_holds}
 use Rattle.fb_model_worlds.proofs.Growing.{Grows, offer_grows, tick_grows}
 

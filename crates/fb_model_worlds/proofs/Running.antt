@@ -7,7 +7,7 @@ use Rattle.fb_model.specs.System.{System}
 use Rattle.fb_model.specs.Certificates.{Certificate, far_of}
 use Rattle.fb_model.specs.World.{World, WorldEvent, WorldAnswer, WorldHappens, WorldRun, IsFirst, far_left, PaysFar, AreWithin, BoundsRoots}
 use Rattle.fb_model.proofs.Lists.{all_weaker}
-use Rattle.fb_model_worlds.specs.Worlds.{AllHold, IsOnce, IsSent, IsWorldSound, ArePaid, MeasureFalls, MeasureFallsOver, dispatches_of, dispatches_over, EndsRoots}
+use Rattle.fb_model.specs.Worlds.{AllHold, IsOnce, IsSent, IsWorldSound, ArePaid, MeasureFalls, MeasureFallsOver, dispatches_of, dispatches_over, EndsRoots}
 use Rattle.fb_model_worlds.proofs.Opening.{first_begins}
 use Rattle.fb_model_worlds.proofs.Cases.{Case, rests, opens, serves, takes, case, device_holds}
 use Rattle.fb_model_worlds.proofs.Sounding.{sound_case, sound_event, cause_opened}

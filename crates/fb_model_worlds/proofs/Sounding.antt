@@ -17,7 +17,7 @@ use Rattle.fb_model.proofs.Homes.{homes}
 use Rattle.fb_model.proofs.Lists.{all_append, all_weaker, all_both}
 use Rattle.fb_model.proofs.Running.{put_all, at_first_leaf, known_pending, cause_pending, other_queue, sound_run}
 use Rattle.fb_model.proofs.Sending.{sends_messages}
-use Rattle.fb_model_worlds.specs.Worlds.{AllHold, IsOpened, KeepsStamp, IsSent, IsWorldSound}
+use Rattle.fb_model.specs.Worlds.{AllHold, IsOpened, KeepsStamp, IsSent, IsWorldSound}
 use Rattle.fb_model_worlds.proofs.Stamps.{same_kept, run_keeps, stamped_keeps, stamped_kept, kept_stale}
 use Rattle.fb_model_worlds.proofs.Growing.{IsEmptyFrom, admitted_within, Grows}
 use Rattle.fb_model_worlds.proofs.Cases.{at_number, Admits, Case, rests, opens, serves, takes, case, device_holds}

@@ -15,7 +15,7 @@ use Rattle.fb_model.specs.Devices.{Ended, Machine, is_subscriber, subscriber_of,
 use Rattle.fb_model.proofs.Lists.{same_path}
 use Rattle.fb_model.proofs.Placed.{path_same}
 use Rattle.fb_model.proofs.Running.{at_leaf, at_first_leaf}
-use Rattle.fb_model_worlds.specs.Worlds.{IsKept, KeepsStamp}
+use Rattle.fb_model.specs.Worlds.{IsKept, KeepsStamp}
 
 -- ---- the order of stamps
 

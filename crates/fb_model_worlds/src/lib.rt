@@ -8,7 +8,7 @@ ghost use Rattle.std.specs.List.{AllByRecursion};
 ghost use Rattle.fb_model.specs.Certificates.{Certificate};
 ghost use Rattle.fb_model.specs.System.{System};
 ghost use Rattle.fb_model.specs.World.{World, WorldEvent, WorldAnswer, WorldHappens, WorldRun, IsFirst, PaysFar, BoundsRoots};
-ghost use Rattle.fb_model_worlds.specs.Worlds.{AllHold, IsOnce, IsWorldSound, ArePaid, MeasureFalls, MeasureFallsOver, EndsRoots, GoesOn};
+ghost use Rattle.fb_model.specs.Worlds.{AllHold, IsOnce, IsWorldSound, ArePaid, MeasureFalls, MeasureFallsOver, EndsRoots, GoesOn};
 
 /// Every world that devices come to is sound, from its first one on, whatever is lost, repeated or reordered.
 pub fn worlds_are_sound()

@@ -6,7 +6,7 @@ use Rattle.fb_model.specs.Names.{Name}
 use Rattle.fb_model.specs.TypedText.{Term, Command, set, set_part, choose, match_on, count, Commands, done, then_do, Choices, no_choice, choice, Cases, no_case, a_case}
 use Rattle.fb_model.specs.Spans.{Span, joined}
 use Rattle.fb_model.specs.Clear.{Spans, changed, narrowed, assigned, reset, most_iterations, taken, left_with}
-use Rattle.fb_model_laws.specs.Asking.{Asked, point, range_in, asking, asking_all, asked_loop, ask_one, ask, ask_choices, ask_cases, grown}
+use Rattle.fb_model.specs.Asking.{Asked, point, range_in, asking, asking_all, asked_loop, ask_one, ask, ask_choices, ask_cases, grown}
 use Rattle.fb_model_laws.proofs.Growing.{grown_grows}
 use Rattle.fb_ranges.specs.Settling.{held}
 use Rattle.fb_ranges.proofs.Covers.{joined_again, joined_turned, joined_within}

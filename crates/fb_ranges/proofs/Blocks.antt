@@ -15,7 +15,7 @@ use Rattle.st_types.specs.declared.term.TypedExpr.{TypedExpr}
 use Rattle.st_types.specs.Views.{term_of}
 use Rattle.st_types.specs.CommandViews.{command_of, commands_of, choice_of, choices_of, cases_of}
 use Rattle.st_types.proofs.Gathering.{drop_step}
-use Rattle.fb_model_laws.specs.Asking.{Asked, point, asking_all, asked_loop, ask, ask_one}
+use Rattle.fb_model.specs.Asking.{Asked, point, asking_all, asked_loop, ask, ask_one}
 use Rattle.fb_model_laws.proofs.Ending.{ends_one}
 use Rattle.fb_ranges.specs.declared.told.Told.{Told}
 use Rattle.fb_ranges.specs.Finding.{in_sequence, tell}

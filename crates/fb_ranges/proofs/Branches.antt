@@ -10,7 +10,7 @@ use Rattle.st_types.specs.declared.command.TypedBranch.{TypedBranch}
 use Rattle.st_types.specs.declared.command.TypedArm.{TypedArm}
 use Rattle.st_types.specs.CommandViews.{commands_of, case_of, cases_of, choice_of, choices_of}
 use Rattle.st_types.proofs.Gathering.{drop_step}
-use Rattle.fb_model_laws.specs.Asking.{Asked, point, met, ask, ask_choices, ask_cases}
+use Rattle.fb_model.specs.Asking.{Asked, point, met, ask, ask_choices, ask_cases}
 use Rattle.fb_ranges.specs.declared.told.Told.{Told}
 use Rattle.fb_ranges.specs.Finding.{longer, tell}
 use Rattle.fb_ranges.specs.Meeting.{Besides, Mark, joint, met_by, ranges_after}

@@ -13,7 +13,7 @@ use Rattle.st_types.specs.declared.term.TypedLink.{TypedLink}
 use Rattle.st_types.specs.Views.{Tail, joined, term_of, tail_of}
 use Rattle.st_types.proofs.Chains.{view_chain}
 use Rattle.st_types.proofs.Gathering.{drop_step}
-use Rattle.fb_model_laws.specs.Asking.{range_in}
+use Rattle.fb_model.specs.Asking.{range_in}
 use Rattle.fb_ranges.specs.Narrowing.{read_behind, read_in}
 use Rattle.fb_ranges.specs.Views.{linked, linked_in}
 

@@ -9,7 +9,7 @@ use Rattle.fb_model.specs.Language.{iteration_count}
 use Rattle.fb_model.specs.Spans.{Span, span, joined}
 use Rattle.fb_model.specs.Clear.{Spans, changed, narrowed, is_idle, assigned_one, assigned, assigned_choices, assigned_cases, reset, most_iterations, left_with}
 use Rattle.fb_model.proofs.Names.{not_first, not_later, not_front, not_back}
-use Rattle.fb_model_laws.specs.Asking.{Asked, point, range_in, asked_loop, ask_one, ask, ask_choices, ask_cases}
+use Rattle.fb_model.specs.Asking.{Asked, point, range_in, asked_loop, ask_one, ask, ask_choices, ask_cases}
 use Rattle.fb_ranges.specs.Meeting.{Besides}
 use Rattle.fb_ranges.proofs.Covers.{joined_same, narrowed_cover}
 

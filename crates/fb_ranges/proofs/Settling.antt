@@ -17,7 +17,7 @@ use Rattle.fb_model.specs.Clear.{Spans, are_kept, changed, reset}
 use Rattle.fb_model.proofs.Lists.{same_name}
 use Rattle.fb_model.proofs.Names.{at_itself}
 use Rattle.fb_model.proofs.Placed.{name_same}
-use Rattle.fb_model_laws.specs.Asking.{asking, asking_all}
+use Rattle.fb_model.specs.Asking.{asking, asking_all}
 use Rattle.fb_ranges.specs.Settling.{HaveRows, LastHaveRows, held}
 use Rattle.fb_ranges.proofs.Covers.{joined_again, joined_turned, joined_twice}
 use Rattle.fb_ranges.proofs.Sides.{changed_same}

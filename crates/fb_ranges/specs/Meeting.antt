@@ -3,7 +3,7 @@ use Rattle.std.specs.Prelude.{◌≡◌, ℕ, zero, suc, ◌+◌, ◌<◌, ◌�
 use Rattle.fb_model.specs.Names.{Name, is_in}
 use Rattle.fb_model.specs.Spans.{Span, joined}
 use Rattle.fb_model.specs.Clear.{Spans}
-use Rattle.fb_model_laws.specs.Asking.{Asked, point}
+use Rattle.fb_model.specs.Asking.{Asked, point}
 
 -- ranges are the same, but for those of these variables
 abbrev pub Besides : List Name → Spans → Spans → Type 0

@@ -16,7 +16,7 @@ use Rattle.st_types.specs.Views.{Tail}
 use Rattle.fb_model.specs.Clear.{Spans, range_of}
 use Rattle.fb_ranges_intervals.specs.declared.interval.Interval.{Interval}
 use Rattle.fb_ranges_intervals.specs.Views.{span_of}
-use Rattle.fb_model_laws.specs.Asking.{range_in}
+use Rattle.fb_model.specs.Asking.{range_in}
 use Rattle.fb_ranges.specs.declared.expression.Ranged.{Ranged}
 use Rattle.fb_ranges.specs.declared.rows.Ranges.{Ranges}
 use Rattle.fb_ranges.specs.declared.way.Reached.{Reached}

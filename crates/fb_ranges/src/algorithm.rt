@@ -4,7 +4,7 @@ ghost use Rattle.std.specs.Prelude.{◌≡◌, IfOk, OnOk};
 ghost use Rattle.fb_model.specs.Names.{Name};
 ghost use Rattle.fb_model.specs.Clear as book;
 ghost use Rattle.fb_model.specs.Spans.{joined};
-ghost use Rattle.fb_model_laws.specs.Asking.{grown};
+ghost use Rattle.fb_model.specs.Asking.{grown};
 ghost use Rattle.st_types.specs.CommandViews.{commands_of};
 ghost use Rattle.fb_ranges.specs.Answers.{IsExamined, UnlessMemory, most_steps};
 ghost use Rattle.fb_ranges.specs.Finding.{tell};
@@ -12,7 +12,8 @@ ghost use Rattle.fb_ranges.specs.Views.{spans_of};
 
 use crate::assigned::names_assigned;
 use crate::examination::{Assigning, examine_keeping};
-use crate::fault::{OutOfMemory, RangeFault};
+use fb_faults::OutOfMemory;
+use crate::fault::RangeFault;
 use crate::rows::Ranges;
 use crate::told::{Told, answer, most};
 use st_types::Algo;

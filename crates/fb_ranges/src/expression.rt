@@ -6,7 +6,7 @@ ghost use Rattle.fb_model.specs.Clear as book;
 ghost use Rattle.fb_model.specs.Language.{given};
 ghost use Rattle.fb_model.specs.Spans as spans;
 ghost use Rattle.fb_model.specs.Spans.{within, span};
-ghost use Rattle.fb_model_laws.specs.Asking.{range_in};
+ghost use Rattle.fb_model.specs.Asking.{range_in};
 ghost use Rattle.st_types.specs.Views.{term_of, tail_of};
 ghost use Rattle.fb_ranges_intervals.specs.Views.{span_of};
 ghost use Rattle.fb_ranges.specs.Views.{clear_range, linked, linked_in, spans_of};

@@ -4,19 +4,6 @@ ghost use Rattle.std.specs.Prelude.{◌≡◌};
 
 use std::fmt;
 
-/// Memory ran out. Code 9.
-#[derive(Clone, Copy)]
-pub struct OutOfMemory;
-
-impl OutOfMemory {
-    /// The number of the refusal.
-    pub fn code(&self) -> u8
-        ensures { result ≡ 9 }
-    {
-        9
-    }
-}
-
 /// Why a guard or an algorithm is not clear under the ranges of its variables.
 #[derive(Drop)]
 pub enum RangeFault {

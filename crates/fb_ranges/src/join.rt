@@ -4,7 +4,7 @@ ghost use Rattle.std.specs.Prelude.{◌≡◌, IfOk, OnOk, string_bytes};
 ghost use Rattle.fb_model.specs.Clear as book;
 ghost use Rattle.fb_model.specs.Names.{is_in};
 ghost use Rattle.fb_model.specs.Spans.{within};
-ghost use Rattle.fb_model_laws.specs.Asking.{asking, asking_all};
+ghost use Rattle.fb_model.specs.Asking.{asking, asking_all};
 ghost use Rattle.fb_ranges_intervals.specs.Views.{span_of};
 ghost use Rattle.fb_ranges.specs.Settling.{LastHaveRows, held};
 ghost use Rattle.fb_ranges.specs.Views.{names_of, spans_of};

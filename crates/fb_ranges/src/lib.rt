@@ -25,7 +25,7 @@ pub use algorithm::{check_algorithm, grow, max_steps};
 pub use assigned::names_assigned;
 pub use examination::examine_one;
 pub use expression::{Ranged, is_between, range};
-pub use fault::{OutOfMemory, RangeFault};
+pub use fault::RangeFault;
 pub use fb_ranges_intervals::Interval;
 pub use guard::check_guard;
 pub use join::{copied, reset};

@@ -1,8 +1,8 @@
 -- What reading tells of all of the tokens, once for all grammars.
 use Rattle.std.proofs.Common.{◌≡◌, ◌⊎◌, ◌-◌, ◌<◌, ◌≤◌, ℕ, suc, Bool, false, List, [], ◌∷◌, ◌++◌, drop, length, Result, Ok, Err, refl, sym, ap, subst, ◌∙◌, arith, inl, inr}
 use Rattle.std.proofs.lemmas.List.{length-drop}
-use Rattle.fb_lex.specs.declared.fault.TextFault.{TextFault}
-use Rattle.fb_lex.specs.declared.fault.TextFault.TheVariants as faults
+use Rattle.fb_faults.specs.declared.text.TextFault.{TextFault}
+use Rattle.fb_faults.specs.declared.text.TextFault.TheVariants as faults
 use Rattle.fb_model.specs.Tokens.{Token, token}
 use Rattle.fb_model.specs.Productions.{Gram}
 use Rattle.fb_read.specs.declared.stop.Stop.{Stop}

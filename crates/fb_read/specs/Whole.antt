@@ -1,7 +1,7 @@
 -- What answers about all of the tokens of a text say.
 use Rattle.std.specs.Prelude.{◌≡◌, ◌⊎◌, ℕ, List, ◌∷◌, ◌++◌, Result, Ok, Err}
-use Rattle.fb_lex.specs.declared.fault.TextFault.{TextFault}
-use Rattle.fb_lex.specs.declared.fault.TextFault.TheVariants as faults
+use Rattle.fb_faults.specs.declared.text.TextFault.{TextFault}
+use Rattle.fb_faults.specs.declared.text.TextFault.TheVariants as faults
 use Rattle.fb_model.specs.Tokens.{Token}
 use Rattle.fb_read.specs.Reading.{Wrong, syntax, too_deep}
 use Rattle.fb_read.specs.Faults.{start_of, offset_of}

@@ -5,7 +5,8 @@ ghost use Rattle.fb_lex.specs.Views.{tokens_of};
 ghost use Rattle.fb_read.specs.Faults.{offset_of};
 ghost use Rattle.fb_read.specs.declared.stop.Stop.TheVariants.{Memory};
 
-use fb_lex::{TextFault, Token};
+use fb_faults::TextFault;
+use fb_lex::Token;
 use std::alloc::{AllocError, AllocFailed};
 
 /// Why reading stopped, and how many tokens were left then.

@@ -5,7 +5,7 @@ use Rattle.fb_model.specs.Declarations.{SourceTree}
 use Rattle.fb_model.specs.DeclarationGrammar.{IsSystem, a_file}
 use Rattle.fb_model.specs.StructuredTextGrammar.{IsExpression, IsAlgorithm, most_nested, most_nested_statements}
 use Rattle.fb_lex.proofs.Whole.{spelled_once}
-use Rattle.fb_lex.specs.declared.fault.TextFault.{TextFault}
+use Rattle.fb_faults.specs.declared.text.TextFault.{TextFault}
 use Rattle.fb_read.specs.declared.stop.Stop.{Stop}
 use Rattle.fb_read.specs.Reading.{Answer}
 use Rattle.fb_read.specs.Answers.{Fails}
@@ -25,7 +25,7 @@ use Rattle.st_parse.proofs.Laws.{algorithm_sound, algorithm_complete, algorithm_
 use Rattle.fb_tree.specs.declared.tree.FileTree.{FileTree}
 use Rattle.fb_tree.specs.Files.{source_of}
 use Rattle.fb_text.specs.Reading.{file_at, whole_at}
-use Rattle.fb_tree.specs.Sources.{IsNested, IsTree, IsNestedSource}
+use Rattle.fb_model.specs.Sources.{IsNested, IsTree, IsNestedSource}
 use Rattle.fb_text.specs.Answers.{IsSomeTree, Reads, FindsTree, SyntaxAt, TooDeepAt}
 use Rattle.fb_text.proofs.Sound.{IsFront, a_front, file_sound}
 use Rattle.fb_text.proofs.Complete.{file_complete}

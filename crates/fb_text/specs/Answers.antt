@@ -1,12 +1,12 @@
 -- What the parser's answers say.
 use Rattle.std.specs.Prelude.{ℕ, List, length, Result, Ok, Err}
-use Rattle.fb_lex.specs.declared.fault.TextFault.{TextFault}
-use Rattle.fb_lex.specs.declared.fault.TextFault.TheVariants as faults
+use Rattle.fb_faults.specs.declared.text.TextFault.{TextFault}
+use Rattle.fb_faults.specs.declared.text.TextFault.TheVariants as faults
 use Rattle.fb_lex.specs.Lexing.{Refuses}
 use Rattle.fb_model.specs.Tokens.{Token}
 use Rattle.fb_model.specs.Spelling.{Spells}
 use Rattle.fb_model.specs.Declarations.{SourceTree}
-use Rattle.fb_tree.specs.Sources.{IsNested, IsTree, IsNestedSource}
+use Rattle.fb_model.specs.Sources.{IsNested, IsTree, IsNestedSource}
 use Rattle.fb_read.specs.Whole.{Tells, Finds, PlacesSyntax, PlacesTooDeep}
 use Rattle.fb_tree.specs.declared.tree.FileTree.{FileTree}
 use Rattle.fb_tree.specs.Files.{source_of}

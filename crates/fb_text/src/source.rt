@@ -2,7 +2,7 @@
 
 ghost use Rattle.std.specs.Prelude.{◌≡◌};
 ghost use Rattle.fb_tree.specs.Files.{source_of};
-ghost use Rattle.fb_tree.specs.Sources.{IsSpelled};
+ghost use Rattle.fb_model.specs.Sources.{IsSpelled};
 
 use fb_tree::FileTree;
 use std::marker::Model;
@@ -16,7 +16,7 @@ pub struct Source {
 impl Model for Source {
     ghost use Rattle.fb_tree.specs.declared.tree.FileTree.{FileTree};
     ghost use Rattle.fb_tree.specs.Files.{source_of};
-    ghost use Rattle.fb_tree.specs.Sources.{IsSpelled};
+    ghost use Rattle.fb_model.specs.Sources.{IsSpelled};
     ghost use Rattle.fb_tree.specs.contracts.expression.Expr as expressions;
     ghost use Rattle.fb_tree.specs.contracts.statement.Stmt as statements;
     ghost use Rattle.std.specs.Coded.{codes};

@@ -2,7 +2,7 @@
 
 ghost use Rattle.std.specs.Prelude.{◌≡◌, ◌≤◌, ◌<◌, ℕ, List, length, map, IfOk, Err};
 ghost use Rattle.fb_lex.specs.Views.{tokens_of};
-ghost use Rattle.fb_lex.specs.declared.fault.TextFault.TheVariants.{TooLong};
+ghost use Rattle.fb_faults.specs.declared.text.TextFault.TheVariants.{TooLong};
 ghost use Rattle.fb_read.specs.Answers.{Gives};
 ghost use Rattle.fb_read.specs.Whole.{IfSyntax};
 ghost use Rattle.st_parse.specs.ExpressionReading.{expression_at};
@@ -10,7 +10,7 @@ ghost use Rattle.st_parse.specs.Reading.{algorithm_at};
 ghost use Rattle.fb_tree.specs.Files.{source_of};
 ghost use Rattle.fb_text.specs.Reading.{file_at, whole_at};
 ghost use Rattle.fb_text.specs.Answers.{Reads, ReadsText, IsNoSource, FindsTree, SyntaxAt, TooDeepAt, SyntaxIn, TooDeepIn};
-ghost use Rattle.fb_tree.specs.Sources.{IsNested, IsTree, IsNestedSource, IsSource};
+ghost use Rattle.fb_model.specs.Sources.{IsNested, IsTree, IsNestedSource, IsSource};
 ghost use Rattle.fb_model.specs.Tokens as book;
 ghost use Rattle.fb_model.specs.Spelling.{text_limit};
 ghost use Rattle.fb_model.specs.StructuredTextGrammar.{most_nested, most_nested_statements};
@@ -19,7 +19,8 @@ ghost use Rattle.fb_model.specs.Declarations.{SourceTree};
 use crate::many;
 use crate::source::Source;
 use crate::system::system;
-use fb_lex::{TextFault, Token, lex};
+use fb_faults::TextFault;
+use fb_lex::{Token, lex};
 use fb_read::Stop;
 use fb_tree::{BlockTree, FileTree};
 use fb_words::Mark;

@@ -1,7 +1,7 @@
 -- What the reader of texts answers is what the grammar alone says, and there is one such answer.
 use Rattle.std.proofs.Common.{◌≤◌, ℕ, List, length, Result, Ok, Err, ap, subst, arith, inl, inr}
-use Rattle.fb_lex.specs.declared.fault.TextFault.{TextFault}
-use Rattle.fb_lex.specs.declared.fault.TextFault.TheVariants.{OutOfMemory, BadCharacter, Syntax, TooDeep, TooLong, BigNumber}
+use Rattle.fb_faults.specs.declared.text.TextFault.{TextFault}
+use Rattle.fb_faults.specs.declared.text.TextFault.TheVariants.{OutOfMemory, BadCharacter, Syntax, TooDeep, TooLong, BigNumber}
 use Rattle.fb_lex.proofs.Whole.{one_place, not_both, fault_unspelled}
 use Rattle.fb_model.specs.Tokens.{Token}
 use Rattle.fb_model.specs.Spelling.{FirstAt, IsBad, IsBig, Spells, text_limit}

@@ -1,7 +1,7 @@
 -- Where texts that are no tree go wrong, and where they nest too deep.
 use Rattle.std.proofs.Common.{◌≡◌, ◌⊎◌, ℕ, suc, ◌-◌, ◌<◌, List, [], ◌∷◌, ◌++◌, take, drop, length, Result, Ok, Err, refl, sym, ap, subst, ◌∙◌, arith, inl, inr}
 use Rattle.std.proofs.lemmas.List.{append_assoc, append-nil, length-drop, take-append-drop}
-use Rattle.fb_lex.specs.declared.fault.TextFault.TheVariants as faults
+use Rattle.fb_faults.specs.declared.text.TextFault.TheVariants as faults
 use Rattle.fb_lex.proofs.Whole.{spelled_once}
 use Rattle.fb_model.specs.Tokens.{Token, token}
 use Rattle.fb_model.specs.Declarations.{SourceTree}
@@ -11,11 +11,11 @@ use Rattle.fb_read.specs.Reading.{Wrong, syntax, too_deep}
 use Rattle.fb_read.specs.Faults.{start_or, offset_of}
 use Rattle.fb_read.proofs.Fronts.{same_front}
 use Rattle.fb_read.proofs.Steady.{Same, IsStuck}
-use Rattle.fb_tree.specs.Sources.{IsNested, IsTree, IsSource}
+use Rattle.fb_model.specs.Sources.{IsNested, IsTree, IsSource}
 use Rattle.fb_text.specs.Reading.{whole_at}
 use Rattle.fb_text.specs.Answers.{ReadsText}
 use Rattle.fb_text.proofs.Laws.{tree_spelled}
-use Rattle.fb_text_laws.specs.Places.{Begins, StartsTree, IsWrongToken, IsNoTree, IsTooDeep}
+use Rattle.fb_model.specs.RefusedTexts.{Begins, StartsTree, IsWrongToken, IsNoTree, IsTooDeep}
 use Rattle.fb_text_laws.proofs.Fronts.{cut, compare}
 use Rattle.fb_text_laws.proofs.Whole.{source_points, not_stuck, not_deep, deeper, goes_on, begins, text_goes_on}
 

@@ -2,7 +2,7 @@
 use Rattle.std.proofs.Common.{◌≡◌, ℕ, suc, ◌+◌, ◌-◌, List, [], ◌∷◌, ◌++◌, take, drop, length, Result, Ok, Err, refl, sym, ap, subst, ◌∙◌, arith}
 use Rattle.std.proofs.lemmas.List.{take-append-drop}
 use Rattle.std.proofs.Math.Seq.{take-append_seam}
-use Rattle.fb_lex.specs.declared.fault.TextFault.TheVariants as faults
+use Rattle.fb_faults.specs.declared.text.TextFault.TheVariants as faults
 use Rattle.fb_model.specs.Tokens.{Kind, Token}
 use Rattle.fb_model.specs.Spelling.{Spells}
 use Rattle.fb_model.specs.Declarations.{SourceTree}
@@ -19,13 +19,13 @@ use Rattle.st_parse.proofs.ExpressionLaws.{expression_sound, expression_shorter,
 use Rattle.st_parse.proofs.ExpressionViable.{expression_wide, expression_viable}
 use Rattle.st_parse.proofs.Laws.{algorithm_sound, algorithm_no_longer, algorithm_steady}
 use Rattle.st_parse.proofs.Viable.{algorithm_wide, algorithm_viable}
-use Rattle.fb_tree.specs.Sources.{IsNested, IsTree}
+use Rattle.fb_model.specs.Sources.{IsNested, IsTree}
 use Rattle.fb_text.specs.Reading.{file_at, whole_at}
 use Rattle.fb_text.proofs.Sound.{IsFront, a_front}
 use Rattle.fb_text.proofs.Steady.{file_steady}
 use Rattle.fb_text.proofs.Viable.{file_viable}
 use Rattle.fb_text.proofs.Laws.{tree_read, reads_syntax}
-use Rattle.fb_text_laws.specs.Places.{Begins, StartsTree}
+use Rattle.fb_model.specs.RefusedTexts.{Begins, StartsTree}
 use Rattle.fb_text_laws.proofs.Fronts.{same_part, cut}
 use Rattle.fb_text_laws.proofs.Cuts.{cut_spelled, write}
 use Rattle.fb_text_laws.proofs.Placed.{Placed, all_placed, AllSpelled, all_spelled}

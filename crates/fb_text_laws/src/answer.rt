@@ -1,14 +1,14 @@
 //! Laws of what is answered of a text: said of the grammar alone, and in one way.
 
 ghost use Rattle.std.specs.Prelude.{◌≡◌, ◌≤◌, ◌-◌, ℕ, List, take, length, Result, Err};
-ghost use Rattle.fb_lex.specs.declared.fault.TextFault.{TextFault};
+ghost use Rattle.fb_faults.specs.declared.text.TextFault.{TextFault};
 ghost use Rattle.fb_model.specs.Tokens.{Token};
 ghost use Rattle.fb_model.specs.Spelling.{text_limit};
 ghost use Rattle.fb_read.specs.Reading.{syntax, too_deep};
 ghost use Rattle.fb_tree.specs.declared.tree.FileTree.{FileTree};
 ghost use Rattle.fb_text.specs.Reading.{whole_at};
 ghost use Rattle.fb_text.specs.Answers.{ReadsText};
-ghost use Rattle.fb_text_laws.specs.Places.{Begins, StartsTree, IsNoTree, IsTooDeep};
+ghost use Rattle.fb_model.specs.RefusedTexts.{Begins, StartsTree, IsNoTree, IsTooDeep};
 ghost use Rattle.fb_text_laws.specs.Answers.{IsAnswer, IsAlike};
 
 /// Where reading stops, a tree that nests no deeper than is read begins with the tokens before that place.

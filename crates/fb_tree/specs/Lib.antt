@@ -1,4 +1,3 @@
 pub mod Words
 pub mod Algorithms
 pub mod Files
-pub mod Sources

@@ -10,7 +10,7 @@ ghost use Rattle.fb_link.specs.Link.{Sent};
 ghost use Rattle.fb_chart.specs.Responses as responses;
 ghost use Rattle.fb_device_dispatch.specs.Answers.{dispatched_of};
 ghost use Rattle.fb_device_state.specs.Machines.{device_in, cert_in, machine_of};
-ghost use Rattle.fb_device.specs.Promises.{IsBounded};
+ghost use Rattle.fb_model.specs.Promises.{IsBounded};
 ghost use Rattle.fb_turn.specs.Turns as turns;
 ghost use Rattle.fb_turn.specs.Turns.{Turn, Receipt, Close, Service, IsTurn, IsTold, Receives, ServesOne, Serves, GoesOut};
 

@@ -12,7 +12,7 @@ use Rattle.fb_model.specs.Charts.{actions_of, emission}
 use Rattle.fb_model.specs.Certificates.{reached, event_names, all_leaves}
 use Rattle.fb_model.proofs.Lists.{all_weaker}
 use Rattle.fb_model.proofs.Placed.{all_left, all_right}
-use Rattle.fb_model_laws.specs.Demands.{Node, state, event, channel, Demand, Ground, emitted, of_state, of_free, free_demand, of_crossing, crossing_demand, of_input, of_chart, sent, of_dispatch, of_kind, bare, bare_demands}
+use Rattle.fb_model.specs.Demands.{Node, state, event, channel, Demand, Ground, emitted, of_state, of_free, free_demand, of_crossing, crossing_demand, of_input, of_chart, sent, of_dispatch, of_kind, bare, bare_demands}
 use Rattle.fb_model_turns.specs.Turns.{Counts, Join, joined, caused, outputs_of, StateCounts, FreeCounts, CrossingCounts, InputCounts, ChartCounts, ServiceCounts, KindCounts, DispatchesFit}
 use Rattle.fb_model_turns.proofs.Joins.{IsJoin, joined-append, caused-append}
 use Rattle.fb_find_laws.specs.Nodes.{Numbered, by_number, number, index_in, written}

@@ -4,7 +4,7 @@ use Rattle.std.specs.Prelude.{ℕ, ◌+◌, ◌≤◌, nat_lt, List, slice_index
 use Rattle.std.specs.List.{AllByRecursion}
 use Rattle.fb_model.specs.System.{System, Device}
 use Rattle.fb_model.specs.Wires.{leaves}
-use Rattle.fb_model_laws.specs.Demands.{Node, state, event}
+use Rattle.fb_model.specs.Demands.{Node, state, event}
 use Rattle.fb_model_turns.specs.Turns as turns
 use Rattle.fb_model_turns.specs.Turns.{Counts, DispatchesFit, added, largest, joined}
 use Rattle.fb_find_laws.specs.Nodes.{Numbered}

@@ -8,7 +8,8 @@ use crate::join::Join;
 use crate::met::{joined, own};
 use fb_find_demands::{Numbering, group, plain_rights};
 use fb_find_graph::Alternative;
-use fb_find_rows::{NoBound, sorted};
+use fb_faults::NoBound;
+use fb_find_rows::sorted;
 use fb_flat::Flat;
 use std::alloc::{AllocError, Global};
 

@@ -4,9 +4,9 @@ use Rattle.fb_model.specs.Declarations.{BlockTree, SourceTree}
 use Rattle.fb_model.specs.System.{System}
 use Rattle.fb_model.specs.NetworkTyping.{ElaboratesWith}
 use Rattle.fb_model.specs.EventBlocks.{event_blocks, AreEventBlocks, Elaborates}
-use Rattle.fb_types_blocks.specs.declared.fault.TypeFault.{TypeFault}
-use Rattle.fb_types_blocks.specs.declared.fault.TypeFault.TheVariants.{OutOfMemory}
-use Rattle.fb_types.specs.Beforehand.{IsRefused}
+use Rattle.fb_faults.specs.declared.typing.TypeFault.{TypeFault}
+use Rattle.fb_faults.specs.declared.typing.TypeFault.TheVariants.{OutOfMemory}
+use Rattle.fb_model.specs.SourceFaults.{IsRefused}
 use Rattle.fb_types.proofs.Swapped.{swapped}
 use Rattle.fb_types.proofs.Whole.{one_whole, whole_true}
 

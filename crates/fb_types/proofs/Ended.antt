@@ -6,18 +6,20 @@ use Rattle.fb_model.specs.System.{Service}
 use Rattle.fb_model.specs.System as book
 use Rattle.fb_model.specs.Typing.{AreNewNumbers}
 use Rattle.fb_model.specs.NetworkTyping.{services_in, inputs, outputs, subscribed, alone, senders, device_services, AreAlike}
-use Rattle.fb_types_networks.specs.Views.{placed_in, instances_of}
+use Rattle.fb_types_networks.specs.Views.{instances_of}
+use Rattle.fb_model.specs.NetworkFaults.{placed_in}
 use Rattle.fb_types_networks.specs.declared.typed.Network.{out-Network}
 use Rattle.fb_types_networks.proofs.Instances.{view_network}
-use Rattle.fb_types_blocks.specs.declared.fault.TypeFault.{TypeFault}
-use Rattle.fb_types_blocks.specs.declared.fault.TypeFault.TheVariants.{OutOfMemory}
-use Rattle.fb_types.specs.declared.numbers.Kind.TheVariants as k
+use Rattle.fb_faults.specs.declared.typing.TypeFault.{TypeFault}
+use Rattle.fb_faults.specs.declared.typing.TypeFault.TheVariants.{OutOfMemory}
+use Rattle.fb_words.specs.declared.number.NumberKind.TheVariants as k
 use Rattle.fb_types.specs.declared.uses.Use.{Use}
 use Rattle.fb_types.specs.declared.typed.Resource.{Resource}
-use Rattle.fb_types.specs.Uses.{Used, use_of, service_in, services_at}
-use Rattle.fb_types.specs.Numbers.{given, second_number, numbers_in}
+use Rattle.fb_types.specs.Uses.{use_of, service_in, services_at}
+use Rattle.fb_model.specs.Nesting.{Used}
+use Rattle.fb_model.specs.NumberFaults.{given, second_number, numbers_in}
 use Rattle.fb_types.specs.Views.{resource_of}
-use Rattle.fb_types.specs.Ends.{IsNumberFault, no_memory_for_numbers, repeated_input, repeated_output, repeated_channel, IsChannelFault, unlike, repeated_sender}
+use Rattle.fb_model.specs.NumberFaults.{IsNumberFault, no_memory_for_numbers, repeated_input, repeated_output, repeated_channel, IsChannelFault, unlike, repeated_sender}
 use Rattle.fb_types.proofs.Numbered.{no_repeated}
 use Rattle.fb_types.proofs.Shaped.{no_unlike}
 

@@ -13,8 +13,8 @@ use Rattle.fb_model.specs.System as book
 use Rattle.fb_model.specs.BlockTyping.{Declared, face_names}
 use Rattle.fb_model.specs.Typing.{AreNew}
 use Rattle.fb_model.specs.NetworkTyping.{type_named, IsMade, a_basic, a_composite, IsInstance, of_type, of_service, AreInstances, no_instance, an_instance, IsServed, a_service, IsService, instance_texts}
-use Rattle.fb_types_blocks.specs.declared.fault.TypeFault.{TypeFault}
-use Rattle.fb_types_blocks.specs.declared.fault.TypeFault.TheVariants as faults
+use Rattle.fb_faults.specs.declared.typing.TypeFault.{TypeFault}
+use Rattle.fb_faults.specs.declared.typing.TypeFault.TheVariants as faults
 use Rattle.fb_types_blocks.proofs.Lists.{new_append}
 use Rattle.fb_types_blocks.proofs.Refused.{either_of}
 use Rattle.fb_types_networks.specs.declared.typed.Body.{Body, the_lemmas}
@@ -24,16 +24,18 @@ use Rattle.fb_types_services.specs.declared.service.Service.{Service}
 use Rattle.fb_types_services.specs.Views.{service_of}
 use Rattle.fb_types_networks.specs.declared.typed.Instance.{Instance, out-Instance}
 use Rattle.fb_types_networks.specs.declared.typed.Network.{Network as Wires, out-Network}
-use Rattle.fb_types_networks.specs.Views.{Placed, placed_in, placed_of, body_of, instances_of, wired_of}
+use Rattle.fb_types_networks.specs.Views.{placed_of, body_of, instances_of, wired_of}
+use Rattle.fb_model.specs.NetworkFaults.{Placed, placed_in}
 use Rattle.fb_types_networks.specs.Answers.{AreNamed, IsPlaced, IsServedAs, IsWired}
 use denote.Ref.{Bor}
 use Rattle.fb_tree.specs.declared.tree.BlockTree.{BlockTree as Tree}
 use Rattle.fb_types.specs.declared.made.Made.{Made}
 use Rattle.fb_types.specs.declared.made.Unmade.{Unmade}
 use Rattle.fb_types.specs.declared.made.Unmade.TheVariants as u
-use Rattle.fb_types.specs.Uses.{Used, uses_of, uses_in}
-use Rattle.fb_types.specs.Nesting.{deep, deepest, IsOf, Uses, Leads, itself, further, Nests, no_composite, innermost, outside, Provides, by_composite, InstanceProvides, by_type, by_service, AllProvide, by_none, by_each}
-use Rattle.fb_types.specs.Refusals.{IsTypeFault, faulty_part, ring, IsInstanceFault, faulty_type}
+use Rattle.fb_types.specs.Uses.{uses_of, uses_in}
+use Rattle.fb_model.specs.Nesting.{Used}
+use Rattle.fb_model.specs.Nesting.{deep, deepest, IsOf, Uses, Leads, itself, further, Nests, no_composite, innermost, outside, Provides, by_composite, InstanceProvides, by_type, by_service, AllProvide, by_none, by_each}
+use Rattle.fb_model.specs.SourceFaults.{IsTypeFault, faulty_part, ring, IsInstanceFault, faulty_type}
 use Rattle.fb_types.specs.Made.{tree_of, shape_of, shape_uses, body_uses, IsTyped, IsTypedBody, IsDone, IsNamed, IsOpen, IsPath, IsPart, AreParts, IsComposite, IsDeeper, IsUnmade, IsRing, IsHalted, HaltsAt, LeadsTo}
 use Rattle.fb_types.proofs.Nested.{among_cons, among_nil, among_first, among_later, again, one_type, own_face}
 

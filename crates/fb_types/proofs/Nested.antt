@@ -14,22 +14,24 @@ use Rattle.fb_model.specs.Store.{variable_names}
 use Rattle.fb_model.specs.BlockTyping.{Declared, IsBasic, IsFace, face_names, names_in, typed_event, variable_of, event_texts}
 use Rattle.fb_model.specs.NetworkTyping.{type_named, most_deep, IsMade, a_basic, a_composite, IsInstance, of_type, of_service, AreInstances, no_instance, an_instance, AreParameters, IsServed, a_service, given_in, AreEventConnections, AreValueConnections, instance_texts}
 use Rattle.fb_model.specs.Wires.{inputs_of}
-use Rattle.fb_types_blocks.specs.declared.fault.TypeFault.{TypeFault}
-use Rattle.fb_types_blocks.specs.declared.fault.TypeFault.TheVariants as faults
+use Rattle.fb_faults.specs.declared.typing.TypeFault.{TypeFault}
+use Rattle.fb_faults.specs.declared.typing.TypeFault.TheVariants as faults
 use Rattle.fb_types_blocks.proofs.Single.{one_basic, one_interface}
 use Rattle.fb_types_blocks.proofs.Faultless.{no_face_fault}
 use Rattle.fb_types_blocks.proofs.FaultlessBlocks.{no_block_fault}
 use Rattle.fb_types_blocks.proofs.Lists.{map_map, new_split}
 use Rattle.fb_types_blocks.proofs.Refused.{either_of}
-use Rattle.fb_types_services.specs.Refusals.{IsServiceFault, faulty_number, faulty_channel, with_brackets}
+use Rattle.fb_model.specs.ServiceFaults.{IsServiceFault, faulty_number, faulty_channel, with_brackets}
 use Rattle.fb_types_services.proofs.Services.{known}
-use Rattle.fb_types_networks.specs.Views.{Placed, Wired, placed_in}
-use Rattle.fb_types_networks.specs.Answers.{IsPlaced, IsServedAs, own_names}
-use Rattle.fb_types_networks.specs.Refusals.{IsServedFault, no_memory_for_served, faulty_service, faulty_values, IsPlainFault, IsNetworkFault}
+use Rattle.fb_types_networks.specs.Views.{Wired}
+use Rattle.fb_model.specs.NetworkFaults.{Placed, placed_in}
+use Rattle.fb_types_networks.specs.Answers.{IsPlaced, IsServedAs}
+use Rattle.fb_model.specs.NetworkFaults.{own_names}
+use Rattle.fb_model.specs.NetworkFaults.{IsServedFault, no_memory_for_served, faulty_service, faulty_values, IsPlainFault, IsNetworkFault}
 use Rattle.fb_types_networks.proofs.Faultless.{events_are, values_are}
 use Rattle.fb_types_networks.proofs.Networks.{one_plain, one_served, plain_true, served_true, wired_true}
-use Rattle.fb_types.specs.Nesting.{deep, deepest, IsOf, Uses, Leads, itself, further, Nests, no_composite, innermost, outside}
-use Rattle.fb_types.specs.Refusals as fault
+use Rattle.fb_model.specs.Nesting.{deep, deepest, IsOf, Uses, Leads, itself, further, Nests, no_composite, innermost, outside}
+use Rattle.fb_model.specs.SourceFaults as fault
 
 -- ---- one of a list
 

@@ -7,11 +7,11 @@ use Rattle.std.proofs.lemmas.List.Elements.{Contains-append_left, Contains-push,
 use Rattle.fb_model.specs.Names.{Name}
 use Rattle.fb_model.specs.Declarations.{InstanceTree, Chart, Network, BodyTree, BlockTree}
 use Rattle.fb_model.specs.NetworkTyping.{type_named}
-use Rattle.fb_types_blocks.specs.declared.fault.TypeFault.{TypeFault}
-use Rattle.fb_types_blocks.specs.declared.fault.TypeFault.TheVariants as faults
+use Rattle.fb_faults.specs.declared.typing.TypeFault.{TypeFault}
+use Rattle.fb_faults.specs.declared.typing.TypeFault.TheVariants as faults
 use Rattle.fb_types_blocks.proofs.Refused.{either_of}
-use Rattle.fb_types.specs.Nesting.{IsOf, Uses, Leads, itself, further, LeadsToNoRing}
-use Rattle.fb_types.specs.Refusals.{IsTypeFault, faulty_part, ring, faulty_type}
+use Rattle.fb_model.specs.Nesting.{IsOf, Uses, Leads, itself, further, LeadsToNoRing}
+use Rattle.fb_model.specs.SourceFaults.{IsTypeFault, faulty_part, ring, faulty_type}
 use Rattle.fb_types.specs.Made.{IsNamed, IsPath}
 use Rattle.fb_types.specs.Rings.{parts_of, IsOnPath, IsPassed, IsClosing, IsMet, Ends, all_end, IsRingBelow, IsLine, IsSearching}
 use Rattle.fb_types.proofs.Nested.{among_cons, among_nil, among_first, one_type}

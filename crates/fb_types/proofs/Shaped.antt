@@ -18,11 +18,13 @@ use Rattle.fb_words.specs.declared.format.Format.TheVariants.{First}
 use Rattle.fb_model.specs.System.{Service}
 use Rattle.fb_model.specs.System as book
 use Rattle.fb_model.specs.NetworkTyping.{HasShape, AreAlike}
-use Rattle.fb_types_blocks.specs.declared.fault.TypeFault.{TypeFault}
-use Rattle.fb_types_blocks.specs.declared.fault.TypeFault.TheVariants.{OutOfMemory}
+use Rattle.fb_faults.specs.declared.typing.TypeFault.{TypeFault}
+use Rattle.fb_faults.specs.declared.typing.TypeFault.TheVariants.{OutOfMemory}
 use Rattle.fb_types.specs.declared.shapes.Seen.{Seen}
-use Rattle.fb_types.specs.Uses.{Used, services_at}
-use Rattle.fb_types.specs.Shapes.{Shape, Shaped, end_of, HasEnd, IsUnlike, no_memory_for_channels, unlike_ends, shape_in, shape_of, shapes_of, Noted, IsOtherwise, no_memory_for_shape, other_shape}
+use Rattle.fb_types.specs.Uses.{services_at}
+use Rattle.fb_model.specs.Nesting.{Used}
+use Rattle.fb_types.specs.Shapes.{shape_in, shape_of, shapes_of, Noted, IsOtherwise, no_memory_for_shape, other_shape}
+use Rattle.fb_model.specs.NumberFaults.{Shape, Shaped, end_of, HasEnd, IsUnlike, no_memory_for_channels, unlike_ends}
 
 -- ---- tables
 

@@ -17,20 +17,22 @@ use Rattle.fb_tree.specs.declared.tree.BlockTree.{BlockTree as BlockRow}
 use Rattle.fb_tree.specs.declared.tree.ResourceTree.{ResourceTree as ResourceRow}
 use Rattle.fb_tree.specs.declared.tree.DeviceTree.{DeviceTree as DeviceRow}
 use Rattle.fb_tree.specs.Files as trees_of
-use Rattle.fb_types_blocks.specs.declared.fault.TypeFault.{TypeFault}
-use Rattle.fb_types_blocks.specs.declared.fault.TypeFault.TheVariants as faults
+use Rattle.fb_faults.specs.declared.typing.TypeFault.{TypeFault}
+use Rattle.fb_faults.specs.declared.typing.TypeFault.TheVariants as faults
 use Rattle.fb_types_blocks.proofs.Lists.{map_map, mapped_more}
 use Rattle.fb_types_networks.specs.declared.typed.Instance.{Instance, out-Instance}
 use Rattle.fb_types_networks.specs.declared.typed.Network.{out-Network}
-use Rattle.fb_types_networks.specs.Views.{placed_in, placed_of, instances_of, wired_of}
+use Rattle.fb_types_networks.specs.Views.{placed_of, instances_of, wired_of}
+use Rattle.fb_model.specs.NetworkFaults.{placed_in}
 use Rattle.fb_types_networks.specs.Answers.{IsWired, AreNamed}
 use Rattle.fb_types.specs.declared.typed.Resource.{Resource}
 use Rattle.fb_types.specs.declared.typed.Device.{Device}
-use Rattle.fb_types.specs.Uses.{Used, uses_in}
+use Rattle.fb_types.specs.Uses.{uses_in}
+use Rattle.fb_model.specs.Nesting.{Used}
 use Rattle.fb_types.specs.Views.{resource_of, resource_offsets, system_offsets, offsets_in, all_offsets, resource_uses, device_uses, system_uses}
 use Rattle.fb_types.specs.Counts.{IsCrowded, crowded}
-use Rattle.fb_types.specs.Nesting.{AllProvide, ResourcesProvide, by_no_resource, by_each_resource, DevicesProvide, by_no_device, by_each_device}
-use Rattle.fb_types.specs.Refusals.{IsInstanceFault, IsTooDeep, IsBlockFault, IsFirstFault, IsCrowd}
+use Rattle.fb_model.specs.Nesting.{AllProvide, ResourcesProvide, by_no_resource, by_each_resource, DevicesProvide, by_no_device, by_each_device}
+use Rattle.fb_model.specs.SourceFaults.{IsInstanceFault, IsTooDeep, IsBlockFault, IsFirstFault, IsCrowd}
 use Rattle.fb_types.specs.Rings.{Ends}
 use Rattle.fb_types.specs.declared.made.Made.{Made}
 use Rattle.fb_types.specs.Made.{IsDeeper, IsRing, IsMemo, AreParts, AreMade}

@@ -9,21 +9,23 @@ use Rattle.fb_model.specs.Declarations.{ChartTree, InstanceTree, NetworkTree, Ch
 use Rattle.fb_model.specs.System as book
 use Rattle.fb_model.specs.Typing.{most_instances, service_names, AreNew, AreDistinct, AreNewNumbers}
 use Rattle.fb_model.specs.NetworkTyping.{type_named, most_deep, most_resources, most_devices, IsMade, a_basic, a_composite, IsInstance, of_type, of_service, AreInstances, no_instance, an_instance, IsServed, a_service, IsService, instance_count, inner_count, services_of, services_in, no_face, IsResource, AreResources, no_resource, a_resource, device_services, inputs, outputs, subscribed, senders, IsDevice, AreDevices, no_device, a_device, all_services, AreAlike, IsProper, ElaboratesWith, given_in, AreEventConnections, AreValueConnections}
-use Rattle.fb_types_blocks.specs.declared.fault.TypeFault.{TypeFault}
-use Rattle.fb_types_blocks.specs.declared.fault.TypeFault.TheVariants as faults
+use Rattle.fb_faults.specs.declared.typing.TypeFault.{TypeFault}
+use Rattle.fb_faults.specs.declared.typing.TypeFault.TheVariants as faults
 use Rattle.fb_types_blocks.specs.Answers.{Finds}
 use Rattle.fb_types_blocks.proofs.Faultless.{no_repetition, no_excess}
 use Rattle.fb_types_blocks.proofs.Lists.{map_map}
 use Rattle.fb_types_blocks.proofs.Refused.{either_of}
 use Rattle.fb_types_services.proofs.Services.{known, once}
-use Rattle.fb_types_networks.specs.Views.{Wired, placed_in}
+use Rattle.fb_types_networks.specs.Views.{Wired}
+use Rattle.fb_model.specs.NetworkFaults.{placed_in}
 use Rattle.fb_types_networks.proofs.Faultless.{events_are, values_are}
 use Rattle.fb_types_networks.proofs.Networks.{wired_true}
 use Rattle.fb_types.specs.declared.typed.Configuration.{Configuration}
-use Rattle.fb_types.specs.Uses.{Used, services_at}
+use Rattle.fb_types.specs.Uses.{services_at}
+use Rattle.fb_model.specs.Nesting.{Used}
 use Rattle.fb_types.specs.Views.{system_of}
-use Rattle.fb_types.specs.Nesting.{Provides, by_basic, by_composite, InstanceProvides, by_type, by_service, AllProvide, by_none, by_each, ResourcesProvide, by_no_resource, by_each_resource, DevicesProvide, by_no_device, by_each_device}
-use Rattle.fb_types.specs.Refusals as fault
+use Rattle.fb_model.specs.Nesting.{Provides, by_basic, by_composite, InstanceProvides, by_type, by_service, AllProvide, by_none, by_each, ResourcesProvide, by_no_resource, by_each_resource, DevicesProvide, by_no_device, by_each_device}
+use Rattle.fb_model.specs.SourceFaults as fault
 use Rattle.fb_types.specs.Made.{IsNamed}
 use Rattle.fb_types.proofs.Nested.{among_cons, among_nil, one_type, nests_within, all_within, one_instance, all_one, type_true, all_true}
 use Rattle.std.specs.Option.{option_or}

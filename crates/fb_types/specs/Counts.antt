@@ -1,8 +1,8 @@
 -- How many instances there are, with those inside composites, and which one passes the limit.
 use Rattle.std.specs.Prelude.{ℕ, suc, ◌+◌, ◌≡◌, ◌<◌, ◌≤◌, List, ◌∷◌, ◌++◌}
 use Rattle.fb_model.specs.NetworkTyping.{inner_count, instance_count}
-use Rattle.fb_types_blocks.specs.declared.fault.TypeFault.{TypeFault}
-use Rattle.fb_types_blocks.specs.declared.fault.TypeFault.TheVariants.{Limit}
+use Rattle.fb_faults.specs.declared.typing.TypeFault.{TypeFault}
+use Rattle.fb_faults.specs.declared.typing.TypeFault.TheVariants.{Limit}
 use Rattle.fb_types_networks.specs.declared.typed.Instance.{Instance, out-Instance}
 use Rattle.fb_types_networks.specs.Views.{placed_of, instances_of}
 

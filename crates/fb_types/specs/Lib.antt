@@ -1,12 +1,6 @@
 pub mod Uses
-pub mod Numbers
 pub mod Shapes
 pub mod Views
-pub mod Ends
 pub mod Counts
-pub mod Nesting
-pub mod Refusals
 pub mod Rings
 pub mod Made
-pub mod Beforehand
-pub mod Written

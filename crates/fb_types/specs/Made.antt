@@ -17,20 +17,22 @@ use Rattle.fb_model.specs.NetworkTyping.{type_named, most_deep, IsMade, IsInstan
 use Rattle.fb_tree.specs.declared.tree.BlockTree.{BlockTree as Tree}
 use Rattle.fb_tree.specs.Files as trees_of
 use Rattle.fb_types_blocks.specs.Views.{block_of, face_of}
-use Rattle.fb_types_blocks.specs.declared.fault.TypeFault.{TypeFault}
-use Rattle.fb_types_blocks.specs.declared.fault.TypeFault.TheVariants.{RecursiveComposite}
+use Rattle.fb_faults.specs.declared.typing.TypeFault.{TypeFault}
+use Rattle.fb_faults.specs.declared.typing.TypeFault.TheVariants.{RecursiveComposite}
 use Rattle.fb_types_networks.specs.declared.typed.Instance.{Instance, out-Instance}
 use Rattle.fb_types_networks.specs.declared.typed.Network.{out-Network}
-use Rattle.fb_types_networks.specs.Views.{placed_of, placed_in, instances_of, wired_of, body_of}
+use Rattle.fb_types_networks.specs.Views.{placed_of, instances_of, wired_of, body_of}
+use Rattle.fb_model.specs.NetworkFaults.{placed_in}
 use Rattle.fb_types.specs.declared.made.Made.{Made}
 use Rattle.fb_types.specs.declared.made.Shape.{Shape}
 use Rattle.fb_types.specs.declared.made.Shape.TheVariants as s
 use Rattle.fb_types.specs.declared.made.Unmade.{Unmade}
 use Rattle.fb_types.specs.declared.made.Unmade.TheVariants as u
 use Rattle.fb_types_networks.specs.declared.typed.Body.{Body, fold-Body}
-use Rattle.fb_types.specs.Uses.{Used, body_step, instance_step, network_step, uses_of, uses_in}
-use Rattle.fb_types.specs.Nesting.{deep, deepest, IsOf, Leads, Nests, Provides, InstanceProvides, AllProvide}
-use Rattle.fb_types.specs.Refusals.{IsTypeFault, IsInstanceFault, IsTooDeep}
+use Rattle.fb_types.specs.Uses.{body_step, instance_step, network_step, uses_of, uses_in}
+use Rattle.fb_model.specs.Nesting.{Used}
+use Rattle.fb_model.specs.Nesting.{deep, deepest, IsOf, Leads, Nests, Provides, InstanceProvides, AllProvide}
+use Rattle.fb_model.specs.SourceFaults.{IsTypeFault, IsInstanceFault, IsTooDeep}
 
 -- ---- the table of types
 

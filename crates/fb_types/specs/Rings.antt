@@ -15,7 +15,7 @@ use Rattle.fb_model.specs.NetworkTyping.{type_named}
 use Rattle.fb_tree.specs.declared.tree.BlockTree.{BlockTree as Tree}
 use Rattle.fb_types.specs.declared.rings.Step.{Step}
 use Rattle.fb_types.specs.declared.rings.Step.TheVariants as s
-use Rattle.fb_types.specs.Nesting.{Uses, Leads}
+use Rattle.fb_model.specs.Nesting.{Uses, Leads}
 use Rattle.fb_types.specs.Made.{tree_of}
 
 -- what a table has for a name

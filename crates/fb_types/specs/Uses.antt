@@ -5,10 +5,7 @@ use Rattle.fb_types_networks.specs.declared.typed.Body.TheOpen.{Body-F, Instance
 use Rattle.fb_types_networks.specs.declared.typed.Instance.{Instance, fold-Instance}
 use Rattle.fb_types_services.specs.Views.{service_of}
 use Rattle.fb_types.specs.declared.uses.Use.{Use}
-
--- a service, and the offset of its instance's name
-abbrev pub Used : Type 0
-Used = ℕ × Service
+use Rattle.fb_model.specs.Nesting.{Used}
 
 abbrev pub use_of : Use → Used
 use_of u = (u.at, service_of u.service.now)

@@ -2,12 +2,14 @@
 use Rattle.std.specs.Prelude.{ℕ, List, [], ◌∷◌, ◌++◌, map, string_bytes}
 use Rattle.fb_model.specs.System as book
 use Rattle.fb_model.specs.Declarations as decl
-use Rattle.fb_types_networks.specs.Views.{placed_in, wired_of}
+use Rattle.fb_types_networks.specs.Views.{wired_of}
+use Rattle.fb_model.specs.NetworkFaults.{placed_in}
 use Rattle.fb_types_networks.specs.declared.typed.Network.{out-Network}
 use Rattle.fb_types.specs.declared.typed.Resource.{Resource}
 use Rattle.fb_types.specs.declared.typed.Device.{Device}
 use Rattle.fb_types.specs.declared.typed.Configuration.{Configuration}
-use Rattle.fb_types.specs.Uses.{Used, uses_in}
+use Rattle.fb_types.specs.Uses.{uses_in}
+use Rattle.fb_model.specs.Nesting.{Used}
 
 abbrev pub resource_of : Resource → book.Resource
 resource_of r = record { name = string_bytes r.name; inner = placed_in ((wired_of r.network).0); events = (wired_of r.network).1; values = (wired_of r.network).2 }

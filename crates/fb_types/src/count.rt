@@ -7,7 +7,7 @@ ghost use Rattle.fb_model.specs.NetworkTyping.{inner_count, instance_count};
 ghost use Rattle.fb_types_networks.specs.Views.{body_of, placed_of, instances_of};
 ghost use Rattle.fb_types.specs.Counts.{one_count, IsCrowded};
 
-use fb_types_blocks::TypeFault;
+use fb_faults::TypeFault;
 use fb_types_networks::{Body, Instance};
 
 /// The most instances of a resource, those inside composites counted.

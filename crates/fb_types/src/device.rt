@@ -6,8 +6,8 @@ ghost use Rattle.fb_model.specs.Declarations as decl;
 ghost use Rattle.fb_model.specs.NetworkTyping.{IsDevice, AreDevices};
 ghost use Rattle.fb_tree.specs.Files as trees_of;
 ghost use Rattle.fb_types.specs.Views.{device_of, resource_offsets, system_offsets, offsets_in, all_offsets, device_uses, system_uses};
-ghost use Rattle.fb_types.specs.Nesting.{ResourcesProvide, DevicesProvide};
-ghost use Rattle.fb_types.specs.Refusals.{IsDeviceFault};
+ghost use Rattle.fb_model.specs.Nesting.{ResourcesProvide, DevicesProvide};
+ghost use Rattle.fb_model.specs.SourceFaults.{IsDeviceFault};
 ghost use Rattle.fb_types.specs.Made.{IsTable, IsMemo};
 
 use crate::ends::numbers_differ;
@@ -16,7 +16,8 @@ use crate::resource::resources;
 use crate::table::Types;
 use crate::typed::Device;
 use fb_tree::DeviceTree;
-use fb_types_blocks::{TypeFault, at_most, table};
+use fb_faults::TypeFault;
+use fb_types_blocks::{at_most, table};
 use std::alloc::Global;
 
 /// The most resources of a device.

@@ -3,18 +3,19 @@
 ghost use Rattle.std.specs.Prelude.{◌≡◌, ◌++◌, [], map, OnOk, IfErr};
 ghost use Rattle.fb_model.specs.Typing.{AreNewNumbers};
 ghost use Rattle.fb_model.specs.NetworkTyping.{inputs, outputs, subscribed, senders, device_services, all_services, AreAlike};
-ghost use Rattle.fb_types_blocks.specs.declared.fault.TypeFault.TheVariants.{OutOfMemory};
+ghost use Rattle.fb_faults.specs.declared.typing.TypeFault.TheVariants.{OutOfMemory};
 ghost use Rattle.fb_types.specs.Uses.{use_of, service_in, services_at};
-ghost use Rattle.fb_types.specs.declared.numbers.Kind.TheVariants.{Input, Output, Subscriber, Sender};
-ghost use Rattle.fb_types.specs.Numbers.{numbers_in};
+ghost use Rattle.fb_words.specs.declared.number.NumberKind.TheVariants.{Input, Output, Subscriber, Sender};
+ghost use Rattle.fb_model.specs.NumberFaults.{numbers_in};
 ghost use Rattle.fb_types.specs.Views.{resource_of, device_of, device_uses, system_uses};
-ghost use Rattle.fb_types.specs.Ends.{IsNumberFault, IsChannelFault};
+ghost use Rattle.fb_model.specs.NumberFaults.{IsNumberFault, IsChannelFault};
 
-use crate::numbers::{Kind, differ};
+use crate::numbers::differ;
 use crate::shapes::alike;
 use crate::typed::{Device, Resource};
 use crate::uses::{Use, gather_all};
-use fb_types_blocks::TypeFault;
+use fb_faults::TypeFault;
+use fb_words::NumberKind;
 use std::alloc::Global;
 
 // Adds the services of resources at the end.
@@ -48,9 +49,9 @@ fn all_differ(alloc: Global, uses: &[Use]) -> Result<(), TypeFault>
     ensures channels { OnOk result (AreNewNumbers [] (numbers_in Subscriber (map use_of uses.now))) }
     ensures refused { IfErr result (IsNumberFault (map use_of uses.now)) }
 {
-    differ(alloc, Kind::Input, uses)?;
-    differ(alloc, Kind::Output, uses)?;
-    differ(alloc, Kind::Subscriber, uses)
+    differ(alloc, NumberKind::Input, uses)?;
+    differ(alloc, NumberKind::Output, uses)?;
+    differ(alloc, NumberKind::Subscriber, uses)
 }
 
 /// Refuses a number that two INPUTs or two OUTPUTs of a device have, with `BadService`, and a channel that two SUBSCRIBEs of it have, with
@@ -74,7 +75,7 @@ fn all_alike(alloc: Global, uses: &[Use]) -> Result<(), TypeFault>
     ensures refused { IfErr result (IsChannelFault (map use_of uses.now)) }
 {
     alike(alloc, uses)?;
-    differ(alloc, Kind::Sender, uses)
+    differ(alloc, NumberKind::Sender, uses)
 }
 
 /// Refuses ends of one channel that have other types or another format, and a second PUBLISH of a channel of format 2, with

@@ -5,10 +5,10 @@ ghost use Rattle.fb_model.specs.Declarations.{BlockTree, SourceTree};
 ghost use Rattle.fb_model.specs.System as book;
 ghost use Rattle.fb_model.specs.NetworkTyping.{ElaboratesWith};
 ghost use Rattle.fb_model.specs.EventBlocks.{AreEventBlocks, Elaborates};
-ghost use Rattle.fb_types_blocks.specs.declared.fault.TypeFault.{TypeFault};
-ghost use Rattle.fb_types_blocks.specs.declared.fault.TypeFault.TheVariants.{OutOfMemory};
-ghost use Rattle.fb_types.specs.Refusals.{IsSourceFault};
-ghost use Rattle.fb_types.specs.Beforehand.{IsRefused};
+ghost use Rattle.fb_faults.specs.declared.typing.TypeFault.{TypeFault};
+ghost use Rattle.fb_faults.specs.declared.typing.TypeFault.TheVariants.{OutOfMemory};
+ghost use Rattle.fb_model.specs.SourceFaults.{IsSourceFault};
+ghost use Rattle.fb_model.specs.SourceFaults.{IsRefused};
 
 /// A source is one system at most.
 pub fn one_system()

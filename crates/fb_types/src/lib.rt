@@ -20,9 +20,8 @@ mod uses;
 
 pub use count::few;
 pub use ends::{channels_alike, numbers_differ};
-pub use fb_types_blocks::TypeFault;
 pub use laws::{event_blocks_are_alike, one_system, refusals_are_true};
-pub use numbers::{Kind, differ};
+pub use numbers::differ;
 pub use shapes::alike;
 pub use source::resolve_with;
 pub use st_types::{Algo, TypedExpr};

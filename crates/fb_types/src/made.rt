@@ -7,7 +7,8 @@ ghost use Rattle.fb_types.specs.Made.{shape_of, shape_uses, body_uses, IsMemo, I
 ghost use Rattle.fb_types.specs.declared.made.Unmade.TheVariants.{Fault};
 
 use fb_tree::BlockTree;
-use fb_types_blocks::{Block, Face, TypeFault};
+use fb_faults::TypeFault;
+use fb_types_blocks::{Block, Face};
 use fb_types_networks::{Body, Network};
 use indexmap::IndexMap;
 use std::alloc::{AllocError, AllocFailed, Global};
@@ -49,7 +50,7 @@ impl<'a> From<TypeFault> for Unmade<'a> {
 }
 
 impl<'a> From<AllocError> for Unmade<'a> {
-    ghost use Rattle.fb_types_blocks.specs.declared.fault.TypeFault.TheVariants.{OutOfMemory};
+    ghost use Rattle.fb_faults.specs.declared.typing.TypeFault.TheVariants.{OutOfMemory};
 
     ghost from_gives = { λ _ u. u ≡ Fault OutOfMemory };
 
@@ -59,7 +60,7 @@ impl<'a> From<AllocError> for Unmade<'a> {
 }
 
 impl<'a, T: Drop> From<AllocFailed<T>> for Unmade<'a> {
-    ghost use Rattle.fb_types_blocks.specs.declared.fault.TypeFault.TheVariants.{OutOfMemory};
+    ghost use Rattle.fb_faults.specs.declared.typing.TypeFault.TheVariants.{OutOfMemory};
 
     ghost from_gives = { λ _ u. u ≡ Fault OutOfMemory };
 

@@ -2,27 +2,17 @@
 
 ghost use Rattle.std.specs.Prelude.{◌≡◌, ◌++◌, [], map, OnOk, IfErr};
 ghost use Rattle.fb_model.specs.Typing.{AreNewNumbers};
-ghost use Rattle.fb_types_blocks.specs.declared.fault.TypeFault.TheVariants.{OutOfMemory};
+ghost use Rattle.fb_faults.specs.declared.typing.TypeFault.TheVariants.{OutOfMemory};
 ghost use Rattle.fb_types_services.specs.Views.{channel_of, service_of};
 ghost use Rattle.fb_types.specs.Uses.{use_of};
-ghost use Rattle.fb_types.specs.Numbers.{given, second_number, number_of, numbers_in, taken_fault, IsTaken, IsRepeated};
+ghost use Rattle.fb_model.specs.NumberFaults.{given, second_number, number_of, numbers_in, taken_fault, IsTaken, IsRepeated};
 
 use crate::uses::Use;
-use fb_types_blocks::TypeFault;
+use fb_faults::TypeFault;
 use fb_types_services::{Channel, Service};
-use fb_words::Format;
+use fb_words::{Format, NumberKind};
 use indexmap::IndexSet;
 use std::alloc::Global;
-
-/// What has a number of its own: in a device INPUTs, OUTPUTs, and the channels of SUBSCRIBEs; in a system the channels of format 2 of
-/// PUBLISHs.
-#[derive(Clone, Copy)]
-pub enum Kind {
-    Input,
-    Output,
-    Subscriber,
-    Sender,
-}
 
 // The number of a channel of format 2.
 fn second(channel: Channel) -> Option<u16>
@@ -35,23 +25,23 @@ fn second(channel: Channel) -> Option<u16>
 }
 
 // The number that a service has of a kind.
-fn number(kind: Kind, service: &Service) -> Option<u16>
+fn number(kind: NumberKind, service: &Service) -> Option<u16>
     ensures { result ≡ number_of kind (service_of service.now) }
 {
     match kind {
-        Kind::Input => match service {
+        NumberKind::Input => match service {
             Service::Input(number, _) => Some(*number),
             _ => None,
         },
-        Kind::Output => match service {
+        NumberKind::Output => match service {
             Service::Output(number, _) => Some(*number),
             _ => None,
         },
-        Kind::Subscriber => match service {
+        NumberKind::Subscriber => match service {
             Service::Subscribe(channel, _) => Some(channel.number),
             _ => None,
         },
-        Kind::Sender => match service {
+        NumberKind::Sender => match service {
             Service::Publish(channel, _) => second(*channel),
             _ => None,
         },
@@ -59,19 +49,19 @@ fn number(kind: Kind, service: &Service) -> Option<u16>
 }
 
 // The refusal of a number that is taken, by an instance whose name stands at this offset.
-fn taken(kind: Kind, at: usize) -> TypeFault
+fn taken(kind: NumberKind, at: usize) -> TypeFault
     ensures { result ≡ taken_fault kind at }
 {
     match kind {
-        Kind::Input => TypeFault::BadService(at),
-        Kind::Output => TypeFault::BadService(at),
-        Kind::Subscriber => TypeFault::ChannelShape(at),
-        Kind::Sender => TypeFault::ChannelShape(at),
+        NumberKind::Input => TypeFault::BadService(at),
+        NumberKind::Output => TypeFault::BadService(at),
+        NumberKind::Subscriber => TypeFault::ChannelShape(at),
+        NumberKind::Sender => TypeFault::ChannelShape(at),
     }
 }
 
 // Adds the number of a service, which has to be new.
-fn enter(numbers: &mut IndexSet<u16>, kind: Kind, used: &Use) -> Result<(), TypeFault>
+fn enter(numbers: &mut IndexSet<u16>, kind: NumberKind, used: &Use) -> Result<(), TypeFault>
     ensures new { OnOk result (AreNewNumbers numbers.old.keys (given (number_of kind ((use_of used.now).1)))) }
     ensures added { OnOk result (numbers.new.keys ≡ numbers.old.keys ++ given (number_of kind ((use_of used.now).1))) }
     ensures refused { IfErr result (IsTaken kind numbers.old.keys (use_of used.now)) }
@@ -89,7 +79,7 @@ fn enter(numbers: &mut IndexSet<u16>, kind: Kind, used: &Use) -> Result<(), Type
 }
 
 // Refuses a number that an earlier service of the kind has.
-fn each_differs(alloc: Global, kind: Kind, uses: &[Use]) -> Result<(), TypeFault>
+fn each_differs(alloc: Global, kind: NumberKind, uses: &[Use]) -> Result<(), TypeFault>
     ensures new { OnOk result (AreNewNumbers [] (numbers_in kind (map use_of uses.now))) }
     ensures refused { IfErr result (IsRepeated kind [] (map use_of uses.now)) }
 {
@@ -102,7 +92,7 @@ fn each_differs(alloc: Global, kind: Kind, uses: &[Use]) -> Result<(), TypeFault
 
 /// Refuses a number that an earlier service of the kind has, at the later instance's name: of INPUTs and OUTPUTs with `BadService`,
 /// of SUBSCRIBEs and PUBLISHs with `ChannelShape`.
-pub fn differ(alloc: Global, kind: Kind, uses: &[Use]) -> Result<(), TypeFault>
+pub fn differ(alloc: Global, kind: NumberKind, uses: &[Use]) -> Result<(), TypeFault>
     ensures new { OnOk result (AreNewNumbers [] (numbers_in kind (map use_of uses.now))) }
     ensures refused { IfErr result (IsRepeated kind [] (map use_of uses.now)) }
     ensures only { AreNewNumbers [] (numbers_in kind (map use_of uses.now)) → IfErr result (λ f. f ≡ OutOfMemory) }

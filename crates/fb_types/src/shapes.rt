@@ -3,13 +3,14 @@
 ghost use Rattle.std.specs.Prelude.{◌≡◌, ◌++◌, ◌∷◌, [], true, false, None, map, OnOk, IfErr};
 ghost use Rattle.std.specs.Option.{option_map};
 ghost use Rattle.fb_model.specs.NetworkTyping.{AreAlike};
-ghost use Rattle.fb_types_blocks.specs.declared.fault.TypeFault.TheVariants.{OutOfMemory};
+ghost use Rattle.fb_faults.specs.declared.typing.TypeFault.TheVariants.{OutOfMemory};
 ghost use Rattle.fb_types_services.specs.Views.{service_of};
 ghost use Rattle.fb_types.specs.Uses.{use_of, services_at};
-ghost use Rattle.fb_types.specs.Shapes.{end_of, shape_in, shape_of, shapes_of, Noted, IsOtherwise, IsUnlike};
+ghost use Rattle.fb_types.specs.Shapes.{shape_in, shape_of, shapes_of, Noted, IsOtherwise};
+ghost use Rattle.fb_model.specs.NumberFaults.{end_of, IsUnlike};
 
 use crate::uses::Use;
-use fb_types_blocks::TypeFault;
+use fb_faults::TypeFault;
 use fb_types_services::Service;
 use fb_words::{ElemType, Format};
 use indexmap::IndexMap;

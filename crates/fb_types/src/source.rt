@@ -9,7 +9,7 @@ ghost use Rattle.fb_model.specs.NetworkTyping.{IsProper, ElaboratesWith};
 ghost use Rattle.fb_tree.specs.Files as trees_of;
 ghost use Rattle.fb_types_blocks.specs.Answers.{Finds};
 ghost use Rattle.fb_types.specs.Views.{system_of, system_offsets, all_offsets};
-ghost use Rattle.fb_types.specs.Refusals.{IsBlockFault, IsFirstFault, IsSourceFault};
+ghost use Rattle.fb_model.specs.SourceFaults.{IsBlockFault, IsFirstFault, IsSourceFault};
 ghost use Rattle.fb_types.specs.Made.{IsTable, IsMemo, IsNamed};
 
 use crate::device::devices;
@@ -20,7 +20,8 @@ use crate::resource::{DEEP, refusal};
 use crate::table::{Types, is_service, table_of};
 use crate::typed::Configuration;
 use fb_tree::{BlockTree, FileTree};
-use fb_types_blocks::{TypeFault, at_most, table};
+use fb_faults::TypeFault;
+use fb_types_blocks::{at_most, table};
 use indexmap::IndexMap;
 use std::alloc::Global;
 

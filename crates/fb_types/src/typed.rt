@@ -2,7 +2,7 @@
 
 ghost use Rattle.std.specs.Prelude.{◌≡◌};
 ghost use Rattle.fb_types.specs.Views.{system_of};
-ghost use Rattle.fb_types.specs.Written.{IsWritten};
+ghost use Rattle.fb_model.specs.Written.{IsWritten};
 
 use fb_types_networks::Network;
 use std::marker::Model;
@@ -37,7 +37,7 @@ pub struct Typed {
 impl Model for Typed {
     ghost use Rattle.fb_types.specs.declared.typed.Configuration.{Configuration};
     ghost use Rattle.fb_types.specs.Views.{system_of};
-    ghost use Rattle.fb_types.specs.Written.{IsWritten};
+    ghost use Rattle.fb_model.specs.Written.{IsWritten};
     ghost use Rattle.fb_types_networks.specs.contracts.typed.Network as networks;
     ghost use Rattle.std.specs.Coded.{codes};
 

@@ -3,11 +3,11 @@
 ghost use Rattle.std.specs.Prelude.{◌≡◌, ◌++◌, ◌∷◌, [], map, OnOk, IfErr};
 ghost use Rattle.fb_model.specs.NetworkTyping.{services_of, services_in};
 ghost use Rattle.fb_types_networks.specs.Views.{placed_of, instances_of};
-ghost use Rattle.fb_types_blocks.specs.declared.fault.TypeFault.TheVariants.{OutOfMemory};
+ghost use Rattle.fb_faults.specs.declared.typing.TypeFault.TheVariants.{OutOfMemory};
 ghost use Rattle.fb_types_services.specs.Views.{service_of};
 ghost use Rattle.fb_types.specs.Uses.{use_of, service_in, uses_of, uses_in};
 
-use fb_types_blocks::TypeFault;
+use fb_faults::TypeFault;
 use fb_types_networks::{Body, Instance};
 use fb_types_services::Service;
 use std::alloc::Global;

@@ -15,13 +15,14 @@ use Rattle.fb_model.specs.Typing.{AreDistinct, texts, state_texts, typed_state}
 use Rattle.fb_model.specs.BlockTyping.{Declared, AreDeclared, AreTransitions, AreProcedures, no_procedure, a_procedure, IsActionTyped, IsFace, IsBasic, scope, face_names, words_in, names_in, event_texts, algorithm_texts, typed_event, variable_of, face_of as book_face}
 use Rattle.st_types.specs.declared.whole.Algo.{Algo}
 use Rattle.st_types.specs.CommandViews.{commands_of}
-use Rattle.fb_types_blocks.specs.declared.fault.TypeFault.{TypeFault}
+use Rattle.fb_faults.specs.declared.typing.TypeFault.{TypeFault}
 use Rattle.fb_types_blocks.specs.declared.typed.Action.{Action}
 use Rattle.fb_types_blocks.specs.declared.typed.Face.{Face}
 use Rattle.fb_types_blocks.specs.declared.typed.Block.{Block}
-use Rattle.fb_types_blocks.specs.Answers.{names_in_map, own_words, Finds, IsChart, IsTypedBlock}
+use Rattle.fb_types_blocks.specs.Answers.{names_in_map, Finds, IsChart, IsTypedBlock}
+use Rattle.fb_model.specs.BlockFaults.{own_words}
 use Rattle.fb_types_blocks.specs.Views.{declared_in, face_of, transition_of, event_of, events_of, action_of, states_of, procedures_of, block_of}
-use Rattle.fb_types_blocks.specs.Refusals.{IsChartFault, in_actions, in_transitions, in_algorithms, IsScope, IsBasicFault, no_memory_for_block, faulty_action, faulty_transition, faulty_algorithm}
+use Rattle.fb_model.specs.BlockFaults.{IsChartFault, in_actions, in_transitions, in_algorithms, IsScope, IsBasicFault, no_memory_for_block, faulty_action, faulty_transition, faulty_algorithm}
 use Rattle.fb_types_blocks.proofs.Refused.{either_of}
 use Rattle.fb_types_blocks.proofs.Lists.{map_map, texts_append, new_split, new_second}
 use Rattle.fb_types_blocks.proofs.FaultlessBlocks.{all_names_are}

@@ -7,11 +7,11 @@ use Rattle.fb_model.specs.System as book
 use Rattle.fb_model.specs.TextTyping.{Symbol, AreCommands}
 use Rattle.fb_model.specs.TextFaults.{Fault}
 use Rattle.fb_model.specs.BlockTyping.{IsTransition, AreTransitions, no_transition, a_transition, AreProcedures, no_procedure, a_procedure}
-use Rattle.st_types.specs.declared.fault.TypingFault.{TypingFault}
-use Rattle.st_types.specs.declared.fault.TypingFault.TheVariants as st
+use Rattle.fb_faults.specs.declared.statement.TypingFault.{TypingFault}
+use Rattle.fb_faults.specs.declared.statement.TypingFault.TheVariants as st
 use Rattle.st_types.specs.Answers.{Refuses}
-use Rattle.fb_types_blocks.specs.Faults.{fault_of}
-use Rattle.fb_types_blocks.specs.Refusals.{IsTextFault}
+use Rattle.fb_faults.specs.Typings.{fault_of}
+use Rattle.fb_model.specs.BlockFaults.{IsTextFault}
 
 -- the first transitions are typed, with those that are left
 abbrev pub TransitionsLeft : List Symbol → List Name → List Name → List decl.TransitionTree → List book.Transition → List decl.TransitionTree → Type 0

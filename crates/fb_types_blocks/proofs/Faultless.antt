@@ -19,10 +19,10 @@ use Rattle.fb_model.specs.Typing.{AreNew, AreDistinct, IsKnown, texts}
 use Rattle.fb_model.specs.BlockTyping.{Declared, IsGiven, AreBounds, some_bounds, IsStart, a_start, AreDeclared, more, AreKnown, IsFace, face_names, names_in, words_in, event_texts}
 use Rattle.st_types.proofs.Commands.{number_complete}
 use Rattle.st_types.proofs.Faultless.{asked_faultless}
-use Rattle.fb_types_blocks.specs.declared.fault.TypeFault.{TypeFault}
-use Rattle.fb_types_blocks.specs.declared.fault.TypeFault.TheVariants.{OutOfMemory, UnknownName, DuplicateName, TypeMismatch, BadLiteral, NotWritable, Limit}
-use Rattle.fb_types_blocks.specs.Answers.{event_words, own_words, place_of}
-use Rattle.fb_types_blocks.specs.Refusals.{repeated, IsRepetition, IsExcess, IsUnknown, IsUnknownIfSome, IsFaultOf, IsTextFault, IsMisgiven, IsNoBound, IsBoundsFault, low_no_number, high_no_number, low_above_high, excess_element, IsBoundsFaultIfSome, IsStartFault, IsVariableFault, bad_bounds, bad_start, IsEventFault, IsFaceFault, no_memory_for_face, excess_event_input, excess_event_output, excess_input, excess_output, repeated_name, faulty_input, faulty_output, with_no_input, with_no_output}
+use Rattle.fb_faults.specs.declared.typing.TypeFault.{TypeFault}
+use Rattle.fb_faults.specs.declared.typing.TypeFault.TheVariants.{OutOfMemory, UnknownName, DuplicateName, TypeMismatch, BadLiteral, NotWritable, Limit}
+use Rattle.fb_model.specs.BlockFaults.{event_words, own_words, place_of}
+use Rattle.fb_model.specs.BlockFaults.{repeated, IsRepetition, IsExcess, IsUnknown, IsUnknownIfSome, IsFaultOf, IsTextFault, IsMisgiven, IsNoBound, IsBoundsFault, low_no_number, high_no_number, low_above_high, excess_element, IsBoundsFaultIfSome, IsStartFault, IsVariableFault, bad_bounds, bad_start, IsEventFault, IsFaceFault, no_memory_for_face, excess_event_input, excess_event_output, excess_input, excess_output, repeated_name, faulty_input, faulty_output, with_no_input, with_no_output}
 use Rattle.fb_types_blocks.proofs.Lists.{map_map, texts_append}
 use Rattle.fb_types_blocks.proofs.Refused.{either_of}
 use Rattle.fb_types_blocks.proofs.Variables.{names_declared}

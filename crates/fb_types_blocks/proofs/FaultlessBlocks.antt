@@ -12,10 +12,10 @@ use Rattle.fb_model.specs.System as book
 use Rattle.fb_model.specs.Typing.{AreDistinct, texts, state_texts}
 use Rattle.fb_model.specs.BlockTyping.{Declared, AreDeclared, IsActionTyped, IsGuard, a_guard, IsTransition, AreTransitions, a_transition, AreProcedures, a_procedure, IsBasic, face_names, face_of, names_in, words_in, event_texts, algorithm_texts, scope}
 use Rattle.st_types.proofs.Faultless.{condition_faultless, commands_faultless}
-use Rattle.fb_types_blocks.specs.declared.fault.TypeFault.{TypeFault}
-use Rattle.fb_types_blocks.specs.declared.fault.TypeFault.TheVariants.{OutOfMemory}
-use Rattle.fb_types_blocks.specs.Answers.{own_words}
-use Rattle.fb_types_blocks.specs.Refusals.{IsActionFault, no_memory_for_action, unknown_algorithm, unknown_output, IsGuardFault, IsEndsFault, unknown_source, unknown_target, unknown_event, IsTransitionFault, no_memory_for_transition, faulty_ends, faulty_guard, IsAlgorithmFault, IsChartExcess, excess_state, excess_transition, excess_algorithm, IsScope, IsBasicFault, no_memory_for_block, faulty_face, excess, repeated_variable, repeated_state, repeated_algorithm, faulty_internal, faulty_action, faulty_transition, faulty_algorithm}
+use Rattle.fb_faults.specs.declared.typing.TypeFault.{TypeFault}
+use Rattle.fb_faults.specs.declared.typing.TypeFault.TheVariants.{OutOfMemory}
+use Rattle.fb_model.specs.BlockFaults.{own_words}
+use Rattle.fb_model.specs.BlockFaults.{IsActionFault, no_memory_for_action, unknown_algorithm, unknown_output, IsGuardFault, IsEndsFault, unknown_source, unknown_target, unknown_event, IsTransitionFault, no_memory_for_transition, faulty_ends, faulty_guard, IsAlgorithmFault, IsChartExcess, excess_state, excess_transition, excess_algorithm, IsScope, IsBasicFault, no_memory_for_block, faulty_face, excess, repeated_variable, repeated_state, repeated_algorithm, faulty_internal, faulty_action, faulty_transition, faulty_algorithm}
 use Rattle.fb_types_blocks.proofs.Lists.{map_map, texts_append, new_split}
 use Rattle.fb_types_blocks.proofs.Refused.{either_of}
 use Rattle.fb_types_blocks.proofs.Variables.{names_declared}

@@ -11,14 +11,15 @@ use Rattle.fb_model.specs.Typing.{AreDistinct, texts}
 use Rattle.fb_model.specs.BlockTyping.{Declared, AreDeclared, IsFace, IsBasic, face_names, words_in, names_in, event_texts}
 use Rattle.fb_tree.specs.declared.tree.EventTree.{EventTree}
 use Rattle.fb_tree.specs.Files as tree
-use Rattle.fb_types_blocks.specs.declared.fault.TypeFault.{TypeFault}
-use Rattle.fb_types_blocks.specs.declared.fault.TypeFault.TheVariants.{OutOfMemory}
+use Rattle.fb_faults.specs.declared.typing.TypeFault.{TypeFault}
+use Rattle.fb_faults.specs.declared.typing.TypeFault.TheVariants.{OutOfMemory}
 use Rattle.fb_types_blocks.specs.declared.typed.Variable.{Variable}
 use Rattle.fb_types_blocks.specs.declared.typed.Face.{Face}
 use Rattle.fb_types_blocks.specs.declared.typed.Block.{Block}
-use Rattle.fb_types_blocks.specs.Answers.{names_in_map, event_words, Finds, IsTypedBlock}
+use Rattle.fb_types_blocks.specs.Answers.{names_in_map, Finds, IsTypedBlock}
+use Rattle.fb_model.specs.BlockFaults.{event_words}
 use Rattle.fb_types_blocks.specs.Views.{declared_of, declared_in, face_of, block_of}
-use Rattle.fb_types_blocks.specs.Refusals.{IsFaceFault, IsBasicFault}
+use Rattle.fb_model.specs.BlockFaults.{IsFaceFault, IsBasicFault}
 use Rattle.fb_types_blocks.proofs.Lists.{map_map, texts_append, new_split, new_second}
 use Rattle.fb_types_blocks.proofs.Variables.{names_declared}
 use Rattle.fb_types_blocks.proofs.Faultless.{no_face_fault}

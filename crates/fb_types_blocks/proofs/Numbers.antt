@@ -12,10 +12,10 @@ use Rattle.st_types.specs.Elaborating.{asked}
 use Rattle.st_types.specs.Commanding.{number_of}
 use Rattle.st_types.proofs.Commands.{asked_sound, asked_complete, number_sound}
 use Rattle.st_types.proofs.Misdoings.{asked_refused, number_refused}
-use Rattle.fb_types_blocks.specs.declared.fault.TypeFault.{TypeFault}
-use Rattle.fb_types_blocks.specs.declared.fault.TypeFault.TheVariants.{UnknownName, TypeMismatch, BadLiteral, NotWritable}
+use Rattle.fb_faults.specs.declared.typing.TypeFault.{TypeFault}
+use Rattle.fb_faults.specs.declared.typing.TypeFault.TheVariants.{UnknownName, TypeMismatch, BadLiteral, NotWritable}
 use Rattle.fb_types_blocks.specs.Answers.{Gives}
-use Rattle.fb_types_blocks.specs.Refusals.{IsFaultOf, IsMisgiven, IsNoBound}
+use Rattle.fb_model.specs.BlockFaults.{IsFaultOf, IsMisgiven, IsNoBound}
 
 -- what a refusal says is so, where what is defined says it
 pub gives_refused : {X Y : Type 0} (view : X → Y) (P : Fault → Type 0) (r : Result X TypeFault) (said : Result Y Fault) → ((w : Fault) → said ≡ Err w → P w) → Gives view r said → IfErr r (IsFaultOf P)

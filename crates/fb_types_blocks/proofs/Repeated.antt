@@ -4,9 +4,9 @@ use Rattle.std.proofs.lemmas.List.{append-nil}
 use Rattle.fb_model.specs.Names.{Name, is_in}
 use Rattle.fb_model.specs.Productions.{Word}
 use Rattle.fb_model.specs.Typing.{AreNew, texts}
-use Rattle.fb_types_blocks.specs.declared.fault.TypeFault.{TypeFault}
-use Rattle.fb_types_blocks.specs.declared.fault.TypeFault.TheVariants.{OutOfMemory, DuplicateName}
-use Rattle.fb_types_blocks.specs.Refusals.{repeated, IsRepetition}
+use Rattle.fb_faults.specs.declared.typing.TypeFault.{TypeFault}
+use Rattle.fb_faults.specs.declared.typing.TypeFault.TheVariants.{OutOfMemory, DuplicateName}
+use Rattle.fb_model.specs.BlockFaults.{repeated, IsRepetition}
 use Rattle.fb_types_blocks.proofs.Lists.{texts_append, new_append}
 
 -- the first of two lists decides

@@ -12,9 +12,9 @@ use Rattle.fb_model.specs.Typing.{AreNew, texts}
 use Rattle.fb_model.specs.BlockTyping.{Declared, declared, names_in, words_in, AreDeclared, AreBounds, IsStart, none, more}
 use Rattle.fb_tree.specs.declared.tree.VariableTree.{VariableTree}
 use Rattle.fb_tree.specs.Files as tree
-use Rattle.fb_types_blocks.specs.declared.fault.TypeFault.{TypeFault}
-use Rattle.fb_types_blocks.specs.declared.fault.TypeFault.TheVariants.{Limit}
-use Rattle.fb_types_blocks.specs.Refusals.{IsExcess}
+use Rattle.fb_faults.specs.declared.typing.TypeFault.{TypeFault}
+use Rattle.fb_faults.specs.declared.typing.TypeFault.TheVariants.{Limit}
+use Rattle.fb_model.specs.BlockFaults.{IsExcess}
 use Rattle.fb_types_blocks.proofs.Lists.{map_map, texts_append, new_split}
 use Rattle.fb_types_blocks.proofs.Refused.{drop_step}
 

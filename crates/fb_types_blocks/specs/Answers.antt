@@ -1,20 +1,19 @@
 -- What the code's answers are in the words of the definitions.
-use Rattle.std.specs.Prelude.{◌≡◌, ◌++◌, ℕ, List, [], ◌∷◌, Bool, not, cond, map, string_bytes, Option, None, Some, Result, Ok, Err}
+use Rattle.std.specs.Prelude.{◌≡◌, ◌++◌, List, [], ◌∷◌, Bool, not, cond, map, string_bytes, Option, None, Some, Result, Ok, Err}
 use Rattle.std.specs.List.{AllByRecursion}
 use Rattle.std.specs.declared.string.String.{String}
 use Rattle.std.specs.declared.alloc.Global.{Global}
 use Rattle.indexmap.specs.IndexMap.{IndexMap}
 use Rattle.fb_tree.specs.declared.name.Name.{Name as TextName}
 use Rattle.fb_model.specs.Names.{Name, is_in}
-use Rattle.fb_model.specs.Productions.{Word}
-use Rattle.fb_model.specs.Declarations.{EventTree, BlockTree, ChartTree}
+use Rattle.fb_model.specs.Declarations.{BlockTree, ChartTree}
 use Rattle.fb_model.specs.TextFaults.{Fault, unknown_name, type_mismatch, bad_literal, not_writable}
 use Rattle.fb_model.specs.TextTyping.{Symbol}
 use Rattle.fb_model.specs.Typing.{typed_state, state_texts}
-use Rattle.fb_model.specs.BlockTyping.{IsBasic, IsActionTyped, AreTransitions, AreProcedures, words_in, algorithm_texts}
+use Rattle.fb_model.specs.BlockTyping.{IsBasic, IsActionTyped, AreTransitions, AreProcedures, algorithm_texts}
 use Rattle.fb_model.specs.System as book
-use Rattle.fb_types_blocks.specs.declared.fault.TypeFault.{TypeFault}
-use Rattle.fb_types_blocks.specs.declared.fault.TypeFault.TheVariants.{OutOfMemory, UnknownName, TypeMismatch, BadLiteral, NotWritable}
+use Rattle.fb_faults.specs.declared.typing.TypeFault.{TypeFault}
+use Rattle.fb_faults.specs.declared.typing.TypeFault.TheVariants.{OutOfMemory, UnknownName, TypeMismatch, BadLiteral, NotWritable}
 use Rattle.fb_types_blocks.specs.declared.typed.Block.{Block}
 use Rattle.fb_types_blocks.specs.Views.{declared_in, block_of}
 
@@ -34,19 +33,6 @@ names_in_map m = map (λ p. string_bytes p.0) m.entries
 -- what stands under them
 abbrev pub pairs_of : {V S : Type 0} → IndexMap (String Global) V S → List (Name × V)
 pairs_of m = map (λ p. (string_bytes p.0, p.1)) m.entries
-
--- the names of events with their places
-abbrev pub event_words : List EventTree → List Word
-event_words es = map (λ e. e.name) es
-
--- the names of an interface with their places, in text order
-abbrev pub own_words : BlockTree → List Word
-own_words b = (event_words b.event_inputs ++ event_words b.event_outputs) ++ (words_in b.inputs ++ words_in b.outputs)
-
--- the place of the first name, or another one where there is none
-abbrev pub place_of : List Word → ℕ → ℕ
-place_of [] other = other
-place_of (w ∷ ws) other = w.at
 
 -- what a function that takes no memory returned, seen by view, is what is defined
 abbrev pub Gives : {X Y : Type 0} → (X → Y) → Result X TypeFault → Result Y Fault → Type 0

@@ -1,4 +1,2 @@
-pub mod Faults
 pub mod Views
 pub mod Answers
-pub mod Refusals

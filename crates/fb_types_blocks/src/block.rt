@@ -5,12 +5,13 @@ ghost use Rattle.fb_model.specs.System as book;
 ghost use Rattle.fb_model.specs.BlockTyping.{IsBasic, IsFace, AreDeclared, scope, names_in, words_in, algorithm_texts};
 ghost use Rattle.fb_model.specs.Typing.{texts, AreDistinct, state_texts};
 ghost use Rattle.fb_tree.specs.Files as tree;
-ghost use Rattle.fb_types_blocks.specs.Answers.{Finds, IsTypedBlock, IsChart, names_in_map, own_words};
+ghost use Rattle.fb_types_blocks.specs.Answers.{Finds, IsTypedBlock, IsChart, names_in_map};
+ghost use Rattle.fb_model.specs.BlockFaults.{own_words};
 ghost use Rattle.fb_types_blocks.specs.Views.{block_of, declared_in, face_of, states_of, transition_of, procedures_of};
-ghost use Rattle.fb_types_blocks.specs.Refusals.{IsChartExcess, IsChartFault, IsBasicFault};
+ghost use Rattle.fb_model.specs.BlockFaults.{IsChartExcess, IsChartFault, IsBasicFault};
 
 use crate::chart::control_chart;
-use crate::fault::TypeFault;
+use fb_faults::TypeFault;
 use crate::interface::{own_names, ports};
 use crate::names::{at_most, table};
 use crate::scope::scope;

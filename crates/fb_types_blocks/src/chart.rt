@@ -11,9 +11,9 @@ ghost use Rattle.fb_tree.specs.Files as tree;
 ghost use Rattle.st_types.specs.Views.{entries, term_of};
 ghost use Rattle.fb_types_blocks.specs.Answers.{names_in_map, IsChart};
 ghost use Rattle.fb_types_blocks.specs.Views.{action_of, states_of, transition_of, procedures_of};
-ghost use Rattle.fb_types_blocks.specs.Refusals.{IsActionFault, IsStateFault, IsGuardFault, IsEndsFault, IsTransitionFault, IsAlgorithmFault, IsChartFault, Among};
+ghost use Rattle.fb_model.specs.BlockFaults.{IsActionFault, IsStateFault, IsGuardFault, IsEndsFault, IsTransitionFault, IsAlgorithmFault, IsChartFault, Among};
 
-use crate::fault::TypeFault;
+use fb_faults::TypeFault;
 use crate::names::{add, known, known_if_some, optional};
 use crate::typed::{Action, ControlChart, Events, Face, Transition};
 use fb_tree::{ActionTree, AlgorithmTree, ChartTree, GuardTree, StateTree, TransitionTree};

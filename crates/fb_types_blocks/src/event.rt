@@ -8,9 +8,9 @@ ghost use Rattle.fb_tree.specs.Words.{word_of};
 ghost use Rattle.fb_tree.specs.Files as tree;
 ghost use Rattle.fb_types_blocks.specs.Answers.{names_in_map};
 ghost use Rattle.fb_types_blocks.specs.Views.{events_of};
-ghost use Rattle.fb_types_blocks.specs.Refusals.{IsUnknown, IsEventFault, Among};
+ghost use Rattle.fb_model.specs.BlockFaults.{IsUnknown, IsEventFault, Among};
 
-use crate::fault::TypeFault;
+use fb_faults::TypeFault;
 use crate::names::{add, known};
 use crate::typed::{Events, Variables};
 use fb_tree::{EventTree, Name};

@@ -6,12 +6,13 @@ ghost use Rattle.fb_model.specs.System as book;
 ghost use Rattle.fb_model.specs.BlockTyping.{Declared, IsFace, AreDeclared, AreKnown, typed_event, face_names, words_in};
 ghost use Rattle.fb_model.specs.Typing.{texts, AreNew, AreDistinct};
 ghost use Rattle.fb_tree.specs.Files as tree;
-ghost use Rattle.fb_types_blocks.specs.Answers.{Finds, names_in_map, event_words, own_words};
+ghost use Rattle.fb_types_blocks.specs.Answers.{Finds, names_in_map};
+ghost use Rattle.fb_model.specs.BlockFaults.{event_words, own_words};
 ghost use Rattle.fb_types_blocks.specs.Views.{names_of, declared_in, events_of, face_of};
-ghost use Rattle.fb_types_blocks.specs.Refusals.{IsRepetition, IsFaceFault};
+ghost use Rattle.fb_model.specs.BlockFaults.{IsRepetition, IsFaceFault};
 
 use crate::event::events;
-use crate::fault::TypeFault;
+use fb_faults::TypeFault;
 use crate::names::{at_most, declare};
 use crate::typed::{Events, Face, Variables};
 use crate::variable::{declare_variables, few_variables, variables};

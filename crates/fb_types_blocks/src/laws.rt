@@ -7,9 +7,9 @@ ghost use Rattle.fb_model.specs.Trees.{Constant};
 ghost use Rattle.fb_model.specs.Declarations.{BlockTree, ChartTree};
 ghost use Rattle.fb_model.specs.BlockTyping.{Declared, IsGiven, IsFace, IsBasic, face_names};
 ghost use Rattle.fb_model.specs.Typing.{AreDistinct};
-ghost use Rattle.fb_types_blocks.specs.declared.fault.TypeFault.{TypeFault};
-ghost use Rattle.fb_types_blocks.specs.declared.fault.TypeFault.TheVariants.{OutOfMemory};
-ghost use Rattle.fb_types_blocks.specs.Refusals.{IsMisgiven, IsFaceFault, IsBasicFault};
+ghost use Rattle.fb_faults.specs.declared.typing.TypeFault.{TypeFault};
+ghost use Rattle.fb_faults.specs.declared.typing.TypeFault.TheVariants.{OutOfMemory};
+ghost use Rattle.fb_model.specs.BlockFaults.{IsMisgiven, IsFaceFault, IsBasicFault};
 
 /// An interface has one typed form at most.
 pub fn one_face()

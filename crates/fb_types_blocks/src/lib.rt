@@ -6,7 +6,6 @@
 mod block;
 mod chart;
 mod event;
-mod fault;
 mod interface;
 mod laws;
 mod names;
@@ -16,7 +15,6 @@ mod typed;
 mod variable;
 
 pub use block::basic;
-pub use fault::TypeFault;
 pub use interface::face;
 pub use laws::{one_block, one_face, refusals_are_true};
 pub use names::{Named, at_most, contains, declare, insert, known, known_if_some, optional, table};

@@ -7,9 +7,9 @@ ghost use Rattle.fb_model.specs.Names.{is_in};
 ghost use Rattle.fb_model.specs.Typing.{texts, AreNew, AreDistinct, IsKnown};
 ghost use Rattle.fb_types_blocks.specs.Views.{names_of, name_of};
 ghost use Rattle.fb_types_blocks.specs.Answers.{text_of, Extends, pairs_of, names_in_map};
-ghost use Rattle.fb_types_blocks.specs.Refusals.{IsRepetition, IsExcess, IsUnknown, IsUnknownIfSome};
+ghost use Rattle.fb_model.specs.BlockFaults.{IsRepetition, IsExcess, IsUnknown, IsUnknownIfSome};
 
-use crate::fault::TypeFault;
+use fb_faults::TypeFault;
 use fb_tree::{
     AlgorithmTree, BlockTree, DeviceTree, EventTree, InstanceTree, Name, ResourceTree, StateTree,
     TransitionTree,

@@ -10,10 +10,10 @@ ghost use Rattle.st_types.specs.Elaborating.{asked};
 ghost use Rattle.st_types.specs.Elaborating as st;
 ghost use Rattle.st_types.specs.Commanding.{number_of};
 ghost use Rattle.fb_words.specs.declared.elem_type.ElemType.TheVariants as t;
-ghost use Rattle.fb_types_blocks.specs.Refusals.{IsMisgiven};
+ghost use Rattle.fb_model.specs.BlockFaults.{IsMisgiven};
 ghost use Rattle.fb_types_blocks.specs.Answers.{Gives};
 
-use crate::fault::TypeFault;
+use fb_faults::TypeFault;
 use fb_tree::{Constant, Literal};
 use fb_words::ElemType;
 use st_types::{signed, widens};

@@ -6,11 +6,11 @@ ghost use Rattle.fb_model.specs.Typing.{texts, AreNew, AreDistinct};
 ghost use Rattle.fb_tree.specs.Words.{word_of};
 ghost use Rattle.fb_tree.specs.Words as read;
 ghost use Rattle.fb_tree.specs.Files as tree;
-ghost use Rattle.fb_types_blocks.specs.Answers.{place_of};
+ghost use Rattle.fb_model.specs.BlockFaults.{place_of};
 ghost use Rattle.fb_types_blocks.specs.Views.{names_of, declared_in};
-ghost use Rattle.fb_types_blocks.specs.Refusals.{IsRepetition, IsExcess, IsBoundsFault, IsBoundsFaultIfSome, IsStartFault, IsVariableFault, Among};
+ghost use Rattle.fb_model.specs.BlockFaults.{IsRepetition, IsExcess, IsBoundsFault, IsBoundsFaultIfSome, IsStartFault, IsVariableFault, Among};
 
-use crate::fault::TypeFault;
+use fb_faults::TypeFault;
 use crate::names::{add, at_most, declare};
 use crate::number::{bound, constant};
 use crate::typed::{Variable, Variables};

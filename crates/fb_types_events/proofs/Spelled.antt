@@ -10,7 +10,7 @@ use Rattle.fb_text.specs.Reading as T
 use Rattle.st_parse.specs.ConstantReading as C
 use Rattle.st_parse.specs.ExpressionReading as E
 use Rattle.st_parse.specs.Reading as P
-use Rattle.fb_tree.specs.Sources.{IsSource}
+use Rattle.fb_model.specs.Sources.{IsSource}
 use Rattle.fb_text.proofs.Laws.{tree_spelled}
 use Rattle.fb_types_events.specs.declared.library.TheConstants.{EVENT_BLOCKS}
 use Rattle.fb_types_events.proofs.Reckoned.{lexed, lexed_spells}

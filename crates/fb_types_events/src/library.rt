@@ -3,10 +3,10 @@
 ghost use Rattle.std.specs.Prelude.{◌≡◌, map, IfOk, IfErr};
 ghost use Rattle.fb_model.specs.EventBlocks.{AreEventBlocks};
 ghost use Rattle.fb_tree.specs.Files.{block_of};
-ghost use Rattle.fb_types_blocks.specs.declared.fault.TypeFault.TheVariants.{OutOfMemory};
+ghost use Rattle.fb_faults.specs.declared.typing.TypeFault.TheVariants.{OutOfMemory};
 
 use fb_text::{Source, parse};
-use fb_types_blocks::TypeFault;
+use fb_faults::TypeFault;
 use std::alloc::Global;
 
 /// The event blocks, read from their text: a source that declares them, and a system of no devices.

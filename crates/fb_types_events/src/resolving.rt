@@ -6,13 +6,13 @@ ghost use Rattle.fb_model.specs.EventBlocks.{Elaborates};
 ghost use Rattle.fb_tree.specs.Files as trees_of;
 ghost use Rattle.fb_types_networks.specs.Answers.{Finds};
 ghost use Rattle.fb_types.specs.Views.{system_of, system_offsets, all_offsets};
-ghost use Rattle.fb_types.specs.Beforehand.{IsRefused};
+ghost use Rattle.fb_model.specs.SourceFaults.{IsRefused};
 
 use crate::event_blocks;
 use fb_text::Source;
 use fb_tree::FileTree;
 use fb_types::{Configuration, Typed, resolve_with};
-use fb_types_blocks::TypeFault;
+use fb_faults::TypeFault;
 use std::alloc::Global;
 
 // The system of a tree.

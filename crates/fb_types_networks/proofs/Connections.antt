@@ -9,10 +9,11 @@ use Rattle.fb_model.specs.TextTyping.{widens}
 use Rattle.fb_model.specs.Typing.{names_of, event_inputs_of, event_outputs_of, body_named}
 use Rattle.fb_model.specs.Wires.{inputs_of}
 use Rattle.fb_model.specs.NetworkTyping.{variable_named, outputs_of, IsEnd, own_port, port_of, IsValueEnd, own_value, value_at, IsValueConnection, passes}
-use Rattle.fb_types_networks.specs.declared.end.Way.TheVariants as w
-use Rattle.fb_types_networks.specs.declared.end.Carried.{Carried}
-use Rattle.fb_types_networks.specs.declared.end.Carried.TheVariants.{Events, Values}
-use Rattle.fb_types_networks.specs.Ends.{event_port, value_port, IsPortEnd, own, within, carries_to}
+use Rattle.fb_words.specs.declared.end.Way.TheVariants as w
+use Rattle.fb_words.specs.declared.end.Carried.{Carried}
+use Rattle.fb_words.specs.declared.end.Carried.TheVariants.{Events, Values}
+use Rattle.fb_types_networks.specs.Ends.{carries_to}
+use Rattle.fb_model.specs.NetworkFaults.{event_port, value_port, IsPortEnd, own, within}
 
 -- ---- events
 

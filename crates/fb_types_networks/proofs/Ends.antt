@@ -3,7 +3,7 @@ use Rattle.std.proofs.Common.{◌≡◌, Option, Some, None, option_map, refl, a
 use Rattle.fb_words.specs.declared.elem_type.ElemType.{ElemType}
 use Rattle.fb_model.specs.System.{Variable}
 use Rattle.fb_types_services.specs.Views.{typed_as}
-use Rattle.fb_types_networks.specs.declared.end.Carried.TheVariants.{Values}
+use Rattle.fb_words.specs.declared.end.Carried.TheVariants.{Values}
 
 twice : (o : Option Variable) → option_map Values (option_map (λ v. v.type) o) ≡ option_map (λ v. Values v.type) o
 twice None = refl

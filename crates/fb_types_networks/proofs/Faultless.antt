@@ -10,17 +10,18 @@ use Rattle.fb_model.specs.TextTyping.{widens}
 use Rattle.fb_model.specs.Typing.{names_of, event_inputs_of, event_outputs_of, body_named}
 use Rattle.fb_model.specs.Wires.{inputs_of}
 use Rattle.fb_model.specs.NetworkTyping.{variable_named, outputs_of, IsEnd, own_port, port_of, IsValueEnd, own_value, value_at, IsEventConnection, AreEventConnections, no_event, an_event, IsValueConnection, AreValueConnections, no_value, a_value, passes, is_taken}
-use Rattle.fb_types_blocks.specs.declared.fault.TypeFault.{TypeFault}
-use Rattle.fb_types_blocks.specs.declared.fault.TypeFault.TheVariants as faults
-use Rattle.fb_types_networks.specs.declared.end.Way.{Way}
-use Rattle.fb_types_networks.specs.declared.end.Way.TheVariants as w
-use Rattle.fb_types_networks.specs.declared.end.Carried.{Carried}
-use Rattle.fb_types_networks.specs.declared.end.Carried.TheVariants.{Events, Values}
+use Rattle.fb_faults.specs.declared.typing.TypeFault.{TypeFault}
+use Rattle.fb_faults.specs.declared.typing.TypeFault.TheVariants as faults
+use Rattle.fb_words.specs.declared.end.Way.{Way}
+use Rattle.fb_words.specs.declared.end.Way.TheVariants as w
+use Rattle.fb_words.specs.declared.end.Carried.{Carried}
+use Rattle.fb_words.specs.declared.end.Carried.TheVariants.{Events, Values}
 use Rattle.fb_types_networks.specs.Answers.{Finds}
 use Rattle.fb_types_networks.proofs.Loops.{any_nil, any_cons}
-use Rattle.fb_types_networks.specs.Ends.{event_port, value_port, inner_port, IsPortEnd, own, within, carries_to}
-use Rattle.fb_types_networks.specs.Ends as code
-use Rattle.fb_types_networks.specs.Refusals.{no_memory_for_own, wrong_own, no_memory_for_inner, wrong_inner, IsEndFault, faulty_own, unknown_instance, faulty_inner, IsEventFault, faulty_source, faulty_target, passing, Among, IsValueFault, no_memory_for_value, faulty_origin, faulty_goal, passing_value, other_type, second_source, IsValuesFault, this_value, later_value}
+use Rattle.fb_types_networks.specs.Ends.{carries_to}
+use Rattle.fb_model.specs.NetworkFaults.{event_port, value_port, inner_port, IsPortEnd, own, within}
+use Rattle.fb_model.specs.NetworkFaults as code
+use Rattle.fb_model.specs.NetworkFaults.{no_memory_for_own, wrong_own, no_memory_for_inner, wrong_inner, IsEndFault, faulty_own, unknown_instance, faulty_inner, IsEventFault, faulty_source, faulty_target, passing, Among, IsValueFault, no_memory_for_value, faulty_origin, faulty_goal, passing_value, other_type, second_source, IsValuesFault, this_value, later_value}
 
 -- ---- ends
 

@@ -7,8 +7,8 @@ use Rattle.fb_model.specs.Trees.{ConnectionTree}
 use Rattle.fb_model.specs.System.{Face, Instances, End, Connection, Parameter}
 use Rattle.fb_model.specs.Wires.{is_own, is_end}
 use Rattle.fb_model.specs.NetworkTyping.{is_taken, AreValueConnections, no_value, a_value}
-use Rattle.fb_types_blocks.specs.declared.fault.TypeFault.{TypeFault}
-use Rattle.fb_types_networks.specs.Refusals.{IsValueFault, no_memory_for_value, faulty_origin, faulty_goal, passing_value, other_type, second_source, IsValuesFault, this_value, later_value}
+use Rattle.fb_faults.specs.declared.typing.TypeFault.{TypeFault}
+use Rattle.fb_model.specs.NetworkFaults.{IsValueFault, no_memory_for_value, faulty_origin, faulty_goal, passing_value, other_type, second_source, IsValuesFault, this_value, later_value}
 
 or_assoc : (a b c : Bool) → (a || b) || c ≡ a || (b || c)
 or_assoc true b c = refl

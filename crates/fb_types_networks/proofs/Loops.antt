@@ -6,8 +6,8 @@ use Rattle.std.proofs.lemmas.List.{append-nil, append_assoc, drop_all, length-ma
 use Rattle.fb_model.specs.Trees.{ConnectionTree}
 use Rattle.fb_model.specs.System.{Face, Instances, End, Connection}
 use Rattle.fb_model.specs.NetworkTyping.{IsEventConnection, AreEventConnections, no_event, an_event, IsValueConnection, AreValueConnections, no_value, a_value, is_taken}
-use Rattle.fb_types_blocks.specs.declared.fault.TypeFault.{TypeFault}
-use Rattle.fb_types_networks.specs.Refusals.{IsValueFault, IsValuesFault, this_value, later_value}
+use Rattle.fb_faults.specs.declared.typing.TypeFault.{TypeFault}
+use Rattle.fb_model.specs.NetworkFaults.{IsValueFault, IsValuesFault, this_value, later_value}
 
 -- what is so of the connections left, with the ends that have a value then, is so of all
 pub record ValuesSo (f : Face) (inner : Instances) (before : List End) (all : List ConnectionTree) (made : List Connection) (taken : List End) (left : List ConnectionTree) : Type 0 where

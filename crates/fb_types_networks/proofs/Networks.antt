@@ -7,17 +7,19 @@ use Rattle.fb_model.specs.Services.{service_inputs}
 use Rattle.fb_model.specs.Typing.{service_names, AreNew}
 use Rattle.fb_model.specs.Wires.{inputs_of}
 use Rattle.fb_model.specs.NetworkTyping.{AreParameters, IsServed, a_service, IsService, lacking, reserved, instance_texts, given_in, AreEventConnections, AreValueConnections}
-use Rattle.fb_types_blocks.specs.declared.fault.TypeFault.{TypeFault}
-use Rattle.fb_types_blocks.specs.declared.fault.TypeFault.TheVariants as faults
+use Rattle.fb_faults.specs.declared.typing.TypeFault.{TypeFault}
+use Rattle.fb_faults.specs.declared.typing.TypeFault.TheVariants as faults
 use Rattle.fb_types_blocks.proofs.Faultless.{no_repetition}
 use Rattle.fb_types_blocks.proofs.Lists.{map_map}
 use Rattle.fb_types_services.proofs.Services.{once, faultless, known}
 use Rattle.fb_types_networks.specs.declared.typed.Instance.{Instance}
 use Rattle.fb_types_networks.specs.declared.typed.Network.{Network}
-use Rattle.fb_types_networks.specs.Views.{Placed, Wired, placed_in, placed_of, wired_of}
+use Rattle.fb_types_networks.specs.Views.{Wired, placed_of, wired_of}
+use Rattle.fb_model.specs.NetworkFaults.{Placed, placed_in}
 use Rattle.fb_types_networks.specs.Ends.{IsTabled}
-use Rattle.fb_types_networks.specs.Answers.{own_names, AreNamed, IsPlaced, IsServedAs, IsWired, FindsPlaced, FindsServed, FindsWired}
-use Rattle.fb_types_networks.specs.Refusals.{IsParametersFault, IsPlainFault, no_memory_for_plain, with_types, faulty_parameters, IsServedFault, no_memory_for_served, faulty_service, faulty_values, IsNetworkFault, no_memory_for_network, repeated_instance, faulty_events, faulty_values_of}
+use Rattle.fb_types_networks.specs.Answers.{AreNamed, IsPlaced, IsServedAs, IsWired, FindsPlaced, FindsServed, FindsWired}
+use Rattle.fb_model.specs.NetworkFaults.{own_names}
+use Rattle.fb_model.specs.NetworkFaults.{IsParametersFault, IsPlainFault, no_memory_for_plain, with_types, faulty_parameters, IsServedFault, no_memory_for_served, faulty_service, faulty_values, IsNetworkFault, no_memory_for_network, repeated_instance, faulty_events, faulty_values_of}
 use Rattle.fb_types_networks.proofs.Parameters.{lacking_none, one_parameters, parameters_true}
 use Rattle.fb_types_networks.proofs.Faultless.{events_are, events_true, values_are, values_true}
 

@@ -8,12 +8,12 @@ use Rattle.fb_model.specs.Trees.{ParameterTree}
 use Rattle.fb_model.specs.System.{Variable, Parameter}
 use Rattle.fb_model.specs.BlockTyping.{IsGiven}
 use Rattle.fb_model.specs.NetworkTyping.{variable_named, lacking, AreParameters, no_parameter, a_parameter}
-use Rattle.fb_types_blocks.specs.declared.fault.TypeFault.{TypeFault}
-use Rattle.fb_types_blocks.specs.declared.fault.TypeFault.TheVariants as faults
+use Rattle.fb_faults.specs.declared.typing.TypeFault.{TypeFault}
+use Rattle.fb_faults.specs.declared.typing.TypeFault.TheVariants as faults
 use Rattle.fb_types_blocks.proofs.Faultless.{not_both, not_misgiven}
 use Rattle.fb_types_blocks.proofs.Single.{one_given}
 use Rattle.fb_types_networks.specs.Answers.{IsParameter}
-use Rattle.fb_types_networks.specs.Refusals.{IsParameterFault, no_memory_for_parameter, unknown_input, given_again, misgiven, IsParametersFault, this_parameter, later_parameter}
+use Rattle.fb_model.specs.NetworkFaults.{IsParameterFault, no_memory_for_parameter, unknown_input, given_again, misgiven, IsParametersFault, this_parameter, later_parameter}
 
 -- what is so of the parameters left, with the names that have a value then, is so of all
 pub record ParametersSo (vs : List Variable) (xs : List Name) (all : List ParameterTree) (made : List Parameter) (given : List Name) (left : List ParameterTree) : Type 0 where

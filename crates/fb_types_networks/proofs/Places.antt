@@ -8,7 +8,7 @@ use Rattle.std.proofs.lemmas.Bool.{lt-ltb}
 use Rattle.std.proofs.lemmas.Bool.Decides.{nat_tests}
 use Rattle.fb_model.specs.Names.{Name}
 use Rattle.fb_model.specs.Typing.{body_named}
-use Rattle.fb_types_networks.specs.Views.{Placed, placed_in}
+use Rattle.fb_model.specs.NetworkFaults.{Placed, placed_in}
 
 -- the place of the first element that passes
 unfoldable pub place : {X : Type 0} → (X → Bool) → List X → Option ℕ

@@ -1,25 +1,25 @@
 -- What the code's answers are in the words of the definitions.
-use Rattle.std.specs.Prelude.{ℤ, ◌≡◌, ◌++◌, List, [], map, false, Option, None, Some, Result, Ok, Err}
+use Rattle.std.specs.Prelude.{ℤ, ◌≡◌, List, [], map, false, Option, None, Some, Result, Ok, Err}
 use Rattle.std.specs.Option.{option_map}
 use Rattle.fb_model.specs.Names.{Name, is_in}
 use Rattle.fb_model.specs.Declarations.{InstanceTree, NetworkTree}
 use Rattle.fb_model.specs.System as book
-use Rattle.fb_model.specs.Typing.{AreNew, names_of}
-use Rattle.fb_model.specs.Store.{variable_names}
+use Rattle.fb_model.specs.Typing.{AreNew}
 use Rattle.fb_model.specs.Trees.{ParameterTree}
 use Rattle.fb_model.specs.Values.{One}
 use Rattle.fb_model.specs.Services.{service_inputs}
 use Rattle.fb_model.specs.Wires.{inputs_of}
 use Rattle.fb_model.specs.BlockTyping.{IsGiven}
 use Rattle.fb_model.specs.NetworkTyping.{variable_named, reserved, AreParameters, IsServed, AreEventConnections, AreValueConnections, given_in, instance_texts}
-use Rattle.fb_types_blocks.specs.declared.fault.TypeFault.{TypeFault}
-use Rattle.fb_types_blocks.specs.declared.fault.TypeFault.TheVariants.{OutOfMemory}
+use Rattle.fb_faults.specs.declared.typing.TypeFault.{TypeFault}
+use Rattle.fb_faults.specs.declared.typing.TypeFault.TheVariants.{OutOfMemory}
 use Rattle.fb_types_services.specs.Views.{service_of}
 use Rattle.fb_types_networks.specs.declared.instance.Owner.{Owner}
 use Rattle.fb_types_networks.specs.declared.instance.Owner.TheVariants as o
 use Rattle.fb_types_networks.specs.declared.typed.Instance.{Instance}
 use Rattle.fb_types_networks.specs.declared.typed.Network.{Network}
-use Rattle.fb_types_networks.specs.Views.{Placed, Wired, body_of, placed_in, placed_of, wired_of}
+use Rattle.fb_types_networks.specs.Views.{Wired, body_of, placed_of, wired_of}
+use Rattle.fb_model.specs.NetworkFaults.{Placed, placed_in, own_names}
 
 -- it is found, unless memory ran out
 abbrev pub Finds : {X Y : Type 0} → (X → Y) → Result X TypeFault → Y → Type 0
@@ -76,10 +76,6 @@ FindsServed r p = Finds (λ o. option_map placed_of o) r (Some p)
 -- the instances have the names of the tree, in order
 pub record AreNamed (n : NetworkTree) (ps : List Placed) : Type 0 where
   pub names_are : map (λ p. p.0) ps ≡ instance_texts n.instances
-
--- the names of an interface
-abbrev pub own_names : book.Face → List Name
-own_names f = names_of f.event_inputs ++ names_of f.event_outputs ++ variable_names f.inputs ++ variable_names f.outputs
 
 -- a network of these instances: their names are new in the interface, and its connections are well typed
 pub record IsWired (f : book.Face) (n : NetworkTree) (ps : List Placed) (w : Wired) : Type 0 where

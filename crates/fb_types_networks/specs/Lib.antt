@@ -1,4 +1,3 @@
 pub mod Views
 pub mod Answers
 pub mod Ends
-pub mod Refusals

@@ -1,5 +1,5 @@
 -- What typed networks are in the book, without where they lie in memory.
-use Rattle.std.specs.Prelude.{List, [], ◌∷◌, map, string_bytes}
+use Rattle.std.specs.Prelude.{List, map, string_bytes}
 use Rattle.std.specs.Option.{option_map}
 use Rattle.std.specs.declared.string.String.{String}
 use Rattle.std.specs.declared.alloc.Global.{Global}
@@ -16,6 +16,7 @@ use Rattle.fb_types_networks.specs.declared.typed.Network.{Network, fold-Network
 use Rattle.fb_model.specs.Names.{Name}
 use Rattle.fb_model.specs.Values.{One}
 use Rattle.fb_model.specs.System as book
+use Rattle.fb_model.specs.NetworkFaults.{Placed, placed_in}
 
 -- the names of a set, in order
 abbrev pub names_of : {S : Type 0} → IndexSet (String Global) S → List Name
@@ -30,17 +31,9 @@ end_of e = record { instance = option_map string_bytes e.instance; port = string
 abbrev pub connection_of : Connection → book.Connection
 connection_of c = record { source = end_of c.source; target = end_of c.target }
 
--- an instance: its name, its parameters and its body
-abbrev pub Placed : Type 0
-Placed = Name × List book.Parameter × book.Body
-
 -- a network: its instances, and its connections of events and of data
 abbrev pub Wired : Type 0
 Wired = List Placed × List book.Connection × List book.Connection
-
-abbrev pub placed_in : List Placed → book.Instances
-placed_in [] = book.nothing
-placed_in (i ∷ is) = book.instance i.0 i.1 i.2 (placed_in is)
 
 -- one level, with what is inside seen already
 abbrev pub body_step : Body-F book.Body Placed Wired → book.Body

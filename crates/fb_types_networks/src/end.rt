@@ -7,17 +7,19 @@ ghost use Rattle.fb_model.specs.System as book;
 ghost use Rattle.fb_tree.specs.Files as trees_of;
 ghost use Rattle.fb_tree.specs.Words.{word_of};
 ghost use Rattle.fb_types_blocks.specs.Views.{face_of};
-ghost use Rattle.fb_types_blocks.specs.declared.fault.TypeFault.TheVariants.{OutOfMemory, UnknownName, BadConnection};
+ghost use Rattle.fb_faults.specs.declared.typing.TypeFault.TheVariants.{OutOfMemory, UnknownName, BadConnection};
 ghost use Rattle.fb_types_networks.specs.Views.{names_of, body_of, end_of};
-ghost use Rattle.fb_types_networks.specs.declared.end.Carried.TheVariants.{Events, Values};
-ghost use Rattle.fb_types_networks.specs.Ends.{own_port, inner_port, is_own_port, is_inner_port, IsOwnEnd, IsInnerEnd, IsPortEnd, inner_of, IsTabled};
-ghost use Rattle.fb_types_networks.specs.Refusals.{IsWrongPort, IsOwnFault, IsInnerFault, IsEndFault};
+ghost use Rattle.fb_words.specs.declared.end.Carried.TheVariants.{Events, Values};
+ghost use Rattle.fb_types_networks.specs.Ends.{inner_of, IsTabled};
+ghost use Rattle.fb_model.specs.NetworkFaults.{own_port, inner_port, is_own_port, is_inner_port, IsOwnEnd, IsInnerEnd, IsPortEnd};
+ghost use Rattle.fb_model.specs.NetworkFaults.{IsWrongPort, IsOwnFault, IsInnerFault, IsEndFault};
 
 use crate::face::{has_event, type_in};
 use crate::typed::{Body, End, Instance};
 use fb_tree::{Name, PortTree};
-use fb_types_blocks::{Face, TypeFault};
-use fb_words::ElemType;
+use fb_faults::TypeFault;
+use fb_types_blocks::Face;
+use fb_words::{Carried, ElemType, Way};
 use indexmap::IndexSet;
 
 /// Where connections lie: the interface around them, and the instances with the table of their names, in order.
@@ -26,22 +28,6 @@ pub struct Site<'a> {
     pub face: &'a Face,
     pub names: &'a IndexSet<String>,
     pub instances: &'a [Instance],
-}
-
-/// What an end is: where events come from and go to, and where values do.
-#[derive(Clone, Copy)]
-pub enum Way {
-    EventSource,
-    EventTarget,
-    ValueSource,
-    ValueTarget,
-}
-
-/// What a port carries: events, or values of a type.
-#[derive(Clone, Copy)]
-pub enum Carried {
-    Events,
-    Values(ElemType),
 }
 
 // What events there are carry.

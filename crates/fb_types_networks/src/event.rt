@@ -8,12 +8,13 @@ ghost use Rattle.fb_types_blocks.specs.Views.{face_of};
 ghost use Rattle.fb_types_networks.specs.Views.{names_of, end_of, connection_of};
 ghost use Rattle.fb_types_networks.specs.Answers.{Finds};
 ghost use Rattle.fb_types_networks.specs.Ends.{inner_of, IsTabled};
-ghost use Rattle.fb_types_networks.specs.Refusals.{Among, IsEventFault};
+ghost use Rattle.fb_model.specs.NetworkFaults.{Among, IsEventFault};
 
-use crate::end::{Site, Way};
+use crate::end::Site;
 use crate::typed::{Connection, End};
 use fb_tree::ConnectionTree;
-use fb_types_blocks::TypeFault;
+use fb_faults::TypeFault;
+use fb_words::Way;
 use std::alloc::Global;
 
 /// Whether a connection goes from an own port to an own port.

@@ -5,11 +5,12 @@ ghost use Rattle.fb_model.specs.Names.{is_in};
 ghost use Rattle.fb_model.specs.Declarations.{InstanceTree, NetworkTree};
 ghost use Rattle.fb_model.specs.Typing.{service_names};
 ghost use Rattle.fb_model.specs.System as book;
-ghost use Rattle.fb_types_blocks.specs.declared.fault.TypeFault.{TypeFault};
-ghost use Rattle.fb_types_blocks.specs.declared.fault.TypeFault.TheVariants.{OutOfMemory};
-ghost use Rattle.fb_types_networks.specs.Views.{Placed, Wired};
+ghost use Rattle.fb_faults.specs.declared.typing.TypeFault.{TypeFault};
+ghost use Rattle.fb_faults.specs.declared.typing.TypeFault.TheVariants.{OutOfMemory};
+ghost use Rattle.fb_types_networks.specs.Views.{Wired};
+ghost use Rattle.fb_model.specs.NetworkFaults.{Placed};
 ghost use Rattle.fb_types_networks.specs.Answers.{IsPlaced, IsServedAs, IsWired};
-ghost use Rattle.fb_types_networks.specs.Refusals.{IsPlainFault, IsServedFault, IsNetworkFault};
+ghost use Rattle.fb_model.specs.NetworkFaults.{IsPlainFault, IsServedFault, IsNetworkFault};
 
 /// An instance has one typed form at most, and so has a network of instances.
 pub fn one_network()

@@ -7,12 +7,14 @@ ghost use Rattle.fb_model.specs.Typing.{AreNew};
 ghost use Rattle.fb_model.specs.NetworkTyping.{given_in, instance_texts, is_taken};
 ghost use Rattle.fb_tree.specs.Files as trees_of;
 ghost use Rattle.fb_types_blocks.specs.Views.{face_of};
-ghost use Rattle.fb_types_blocks.specs.Refusals.{IsRepetition};
+ghost use Rattle.fb_model.specs.BlockFaults.{IsRepetition};
 ghost use Rattle.fb_types_networks.specs.declared.typed.Network.{out-Network};
-ghost use Rattle.fb_types_networks.specs.Views.{names_of, placed_of, placed_in, connection_of, wired_of};
+ghost use Rattle.fb_types_networks.specs.Views.{names_of, placed_of, connection_of, wired_of};
+ghost use Rattle.fb_model.specs.NetworkFaults.{placed_in};
 ghost use Rattle.fb_types_networks.specs.Ends.{ends_of};
-ghost use Rattle.fb_types_networks.specs.Answers.{AreNamed, IsWired, FindsWired, own_names, given_by};
-ghost use Rattle.fb_types_networks.specs.Refusals.{IsNetworkFault};
+ghost use Rattle.fb_types_networks.specs.Answers.{AreNamed, IsWired, FindsWired, given_by};
+ghost use Rattle.fb_model.specs.NetworkFaults.{own_names};
+ghost use Rattle.fb_model.specs.NetworkFaults.{IsNetworkFault};
 
 use crate::end::Site;
 use crate::event::events;
@@ -20,7 +22,8 @@ use crate::face::{has_event, has_variable};
 use crate::typed::{Connection, End, Instance, Network};
 use crate::value::{Taken, take, values};
 use fb_tree::{InstanceTree, NetworkTree};
-use fb_types_blocks::{Face, TypeFault, insert};
+use fb_faults::TypeFault;
+use fb_types_blocks::{Face, insert};
 use indexmap::IndexSet;
 use std::alloc::{AllocError, Global};
 

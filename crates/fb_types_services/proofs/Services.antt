@@ -12,9 +12,9 @@ use Rattle.fb_model.specs.Declarations.{InstanceTree}
 use Rattle.fb_model.specs.System.{Channel, Service, Input, Output, Publish, Subscribe, Delay, Cycle, Restart}
 use Rattle.fb_model.specs.Typing.{IsWhole, IsId, an_id, service_names}
 use Rattle.fb_model.specs.NetworkTyping.{format_number, IsFormat, unsaid, said, IsService, an_input, an_output, a_publisher, a_subscriber, a_delay, a_cycle, a_restart, having, id, format, value_types, most_types}
-use Rattle.fb_types_blocks.specs.declared.fault.TypeFault.{TypeFault}
-use Rattle.fb_types_blocks.specs.declared.fault.TypeFault.TheVariants as faults
-use Rattle.fb_types_services.specs.Refusals.{no_memory_for_types, excess_types, IsNumberedFault, wrong_number, wrong_types, wrong_format, wrong_channel, IsServiceFault, faulty_number, faulty_channel, with_brackets, has_number, has_channel, has_values, is_timer}
+use Rattle.fb_faults.specs.declared.typing.TypeFault.{TypeFault}
+use Rattle.fb_faults.specs.declared.typing.TypeFault.TheVariants as faults
+use Rattle.fb_model.specs.ServiceFaults.{no_memory_for_types, excess_types, IsNumberedFault, wrong_number, wrong_types, wrong_format, wrong_channel, IsServiceFault, faulty_number, faulty_channel, with_brackets, has_number, has_channel, has_values, is_timer}
 use Rattle.fb_types_services.specs.declared.service.Service.{Service as Made}
 use Rattle.fb_types_services.specs.Answers.{FindsService, IsNumbered, IsChannelled}
 use Rattle.fb_types_services.specs.Views.{service_of}

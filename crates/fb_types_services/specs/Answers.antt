@@ -9,8 +9,8 @@ use Rattle.fb_model.specs.Typing.{IsId}
 use Rattle.fb_model.specs.NetworkTyping.{IsFormat, having, id, format, value_types, most_types}
 use Rattle.fb_tree.specs.declared.tree.ParameterTree.{ParameterTree as Source}
 use Rattle.fb_tree.specs.Files.{parameter_of}
-use Rattle.fb_types_blocks.specs.declared.fault.TypeFault.{TypeFault}
-use Rattle.fb_types_blocks.specs.declared.fault.TypeFault.TheVariants.{OutOfMemory}
+use Rattle.fb_faults.specs.declared.typing.TypeFault.{TypeFault}
+use Rattle.fb_faults.specs.declared.typing.TypeFault.TheVariants.{OutOfMemory}
 use Rattle.fb_types_services.specs.declared.service.Service.{Service}
 use Rattle.fb_types_services.specs.declared.declared.Named.{Named}
 use Rattle.fb_types_services.specs.declared.declared.Named.TheVariants.{Absent, Once, Often}

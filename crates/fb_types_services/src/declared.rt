@@ -9,13 +9,13 @@ ghost use Rattle.fb_model.specs.System as book;
 ghost use Rattle.fb_tree.specs.Algorithms.{literal_of};
 ghost use Rattle.fb_tree.specs.Files.{parameter_of, instance_of};
 ghost use Rattle.fb_types_services.specs.Answers.{IsNamed, FindsService, IsNumbered, IsChannelled};
-ghost use Rattle.fb_types_services.specs.Refusals.{IsNumberFault, IsFormatFault, IsTypesFault, IsBareFault, IsNumberedFault, IsChannelledFault, IsServiceFault, has_values, is_timer};
+ghost use Rattle.fb_model.specs.ServiceFaults.{IsNumberFault, IsFormatFault, IsTypesFault, IsBareFault, IsNumberedFault, IsChannelledFault, IsServiceFault, has_values, is_timer};
 ghost use Rattle.fb_types_services.specs.Views.{channel_of, service_of};
 
 use crate::number::whole;
 use crate::service::{Channel, Service};
 use fb_tree::{InstanceTree, Literal, ParameterTree};
-use fb_types_blocks::TypeFault;
+use fb_faults::TypeFault;
 use fb_words::{ElemType, Format};
 use std::alloc::Global;
 

@@ -14,10 +14,11 @@ use Rattle.fb_cert.specs.declared.certificate.Certificate.{Certificate}
 use Rattle.fb_cert.specs.Views.{certificate_of}
 use Rattle.fb_check_columns.specs.Columns.{column_of}
 use Rattle.fb_check_columns.specs.declared.column.Column.TheVariants.{Steps, Places}
-use Rattle.fb_check_ranges.specs.Fitting.{AllClear, IsKnownLeaf as IsPlainLeaf, AreKnown as ArePlain}
+use Rattle.fb_check_ranges.specs.Fitting.{IsKnownLeaf as IsPlainLeaf, AreKnown as ArePlain}
+use Rattle.fb_model.specs.Misfits.{AllClear}
 use Rattle.fb_check_columns.specs.Fitting.{AlgorithmsClear, IsKnownLeaf, AreKnown, AllPay}
 use Rattle.fb_check_rows.specs.Depths.{IsDeep}
-use Rattle.fb_types.specs.Written.{IsWritten}
+use Rattle.fb_model.specs.Written.{IsWritten}
 use Rattle.fb_verdict.specs.Fitting.{FitsAlone}
 use Rattle.fb_verified.proofs.Written.{words}
 

@@ -10,34 +10,39 @@ use Rattle.fb_model.specs.Certificates as certs
 use Rattle.fb_model.specs.Certificates.{ColumnFits, DeviceFits, FollowsFew, Fits}
 use Rattle.fb_model.specs.CertificateText.{names_in, place_of}
 use Rattle.fb_model.proofs.Lists.{all_weaker}
-use Rattle.fb_types_blocks.specs.declared.fault.TypeFault.{TypeFault}
-use Rattle.fb_types_blocks.specs.declared.fault.TypeFault.TheVariants as faults
+use Rattle.fb_faults.specs.declared.typing.TypeFault.{TypeFault}
+use Rattle.fb_faults.specs.declared.typing.TypeFault.TheVariants as faults
 use Rattle.fb_types.specs.declared.typed.Configuration.{Configuration}
 use Rattle.fb_types.specs.declared.typed.Device as typed
 use Rattle.fb_types.specs.declared.typed.Resource as typed_resource
 use Rattle.fb_types.specs.Views.{system_of, device_of, resource_of}
 use Rattle.fb_flat.specs.Leaves.{IsFull, IsLimitAt}
-use Rattle.fb_check_rows.specs.declared.fault.RowFault.{RowFault}
-use Rattle.fb_check_rows.specs.declared.fault.RowFault.TheVariants as rows
-use Rattle.fb_check_rows.specs.Faults.{IsUnknown, IsMissing, IsUnknownChannel, IsMissingChannel, unknown_place, unknown_depth, missing_place, missing_depth, IsRowFault}
-use Rattle.fb_check_ranges.specs.declared.fault.Unclear.{Unclear}
-use Rattle.fb_check_ranges.specs.declared.fault.Unclear.TheVariants as unclear
-use Rattle.fb_check_ranges.specs.Fitting.{IsUnclear}
+use Rattle.fb_faults.specs.declared.row.RowFault.{RowFault}
+use Rattle.fb_faults.specs.declared.row.RowFault.TheVariants as rows
+use Rattle.fb_check_rows.specs.Faults.{IsRowFault}
+use Rattle.fb_model.specs.Misfits.{IsUnknown, IsMissing, IsUnknownChannel, IsMissingChannel, unknown_place, unknown_depth, missing_place, missing_depth}
+use Rattle.fb_faults.specs.declared.unclear.Unclear.{Unclear}
+use Rattle.fb_faults.specs.declared.unclear.Unclear.TheVariants as unclear
+use Rattle.fb_model.specs.Misfits.{IsUnclear}
 use Rattle.fb_check_ranges.proofs.Denied.{denied as unclear_denies}
 use Rattle.fb_check_columns.specs.declared.column.Column.TheVariants.{Steps, Places}
-use Rattle.fb_check_columns.specs.declared.fault.Shortfall.{Shortfall}
-use Rattle.fb_check_columns.specs.declared.fault.Shortfall.TheVariants as short
+use Rattle.fb_faults.specs.declared.shortfall.Shortfall.{Shortfall}
+use Rattle.fb_faults.specs.declared.shortfall.Shortfall.TheVariants as short
 use Rattle.fb_check_columns.specs.Columns.{column_of}
-use Rattle.fb_check_columns.specs.Fitting.{IsUnpaid, AllPay, IsLeafFault, Some as SomePaid, IsShortChannel, ChannelsPay}
+use Rattle.fb_check_columns.specs.Fitting.{AllPay}
+use Rattle.fb_model.specs.Misfits.{IsUnpaid, IsLeafFault, IsShortChannel, ChannelsPay}
+use Rattle.fb_model.specs.Misfits.{OneOf as SomePaid}
 use Rattle.fb_check_columns.proofs.Denied.{denied as unpaid_denies}
-use Rattle.fb_check_rows.specs.declared.shallow.Shallow.{Shallow}
-use Rattle.fb_check_rows.specs.declared.shallow.Shallow.TheVariants as shallow
-use Rattle.fb_check_rows.specs.Depths.{Some as SomeOf, IsDeep, IsShallowFault}
+use Rattle.fb_faults.specs.declared.shallow.Shallow.{Shallow}
+use Rattle.fb_faults.specs.declared.shallow.Shallow.TheVariants as shallow
+use Rattle.fb_check_rows.specs.Depths.{IsDeep}
+use Rattle.fb_model.specs.Misfits.{OneOf as SomeOf, IsShallowFault}
 use Rattle.fb_check_rows.proofs.DepthSystems.{some_of, none_lacks, denied as shallow_denies}
-use Rattle.fb_verdict.specs.declared.refusal.Refusal.{Refusal}
-use Rattle.fb_verdict.specs.declared.refusal.Refusal.TheVariants.{OutOfMemory, Text, Typing, Certificate as Spelling, UnknownRow, MissingRow, UnknownChannel, MissingChannel, RangeStart, RangeLink, RangeKept, IndexOrDivisor, Charge, Weight, Depth, Far, Channel}
-use Rattle.fb_verdict.specs.Refusals.{of_row, of_type, of_unclear as told, of_shortfall, of_far, of_shallow}
-use Rattle.fb_verdict.specs.Faults.{IsCrowded, IsOwing, IsOwingFar, IsFitFault}
+use Rattle.fb_faults.specs.declared.refusal.Refusal.{Refusal}
+use Rattle.fb_faults.specs.declared.refusal.Refusal.TheVariants.{OutOfMemory, Text, Typing, Certificate as Spelling, UnknownRow, MissingRow, UnknownChannel, MissingChannel, RangeStart, RangeLink, RangeKept, IndexOrDivisor, Charge, Weight, Depth, Far, Channel}
+use Rattle.fb_faults.specs.Refusals.{of_row, of_type, of_unclear as told, of_shortfall, of_far, of_shallow}
+use Rattle.fb_model.specs.Misfits.{IsLimit, IsOwing, IsOwingFar}
+use Rattle.fb_verdict.specs.Faults.{Crowds, IsFitFault}
 
 -- ---- from the parts to the whole
 
@@ -122,7 +127,7 @@ device_crowded at [] s h = s
 device_crowded at (d ∷ ds) (inl p) h = resource_crowded at d.resources.items (some_of (λ r. IsFull r at) d.resources.items p) h.0
 device_crowded at (d ∷ ds) (inr s) h = device_crowded at ds s h.1
 
-crowded_denied : (typed : Configuration) (cert : certs.Certificate) (f : TypeFault) → IsCrowded typed f → Fits (system_of typed) cert → ⊥
+crowded_denied : (typed : Configuration) (cert : certs.Certificate) (f : TypeFault) → IsLimit (Crowds typed) f → Fits (system_of typed) cert → ⊥
 crowded_denied typed cert (faults.Limit at) h fits = device_crowded at typed.devices.items (some_of (λ d. Any (λ r. IsFull r at) d.resources.items) typed.devices.items h) fits.followed
 crowded_denied typed cert faults.OutOfMemory h fits = h
 crowded_denied typed cert (faults.UnknownName at) h fits = h

@@ -6,28 +6,30 @@ use Rattle.fb_model.specs.CertificateText.{Spells}
 use Rattle.fb_model.specs.Declarations.{SourceTree}
 use Rattle.fb_model.specs.System.{System}
 use Rattle.fb_model.specs.EventBlocks.{Elaborates}
-use Rattle.fb_lex.specs.declared.fault.TextFault.{TextFault}
-use Rattle.fb_lex.specs.declared.fault.TextFault.TheVariants as texts
-use Rattle.fb_types_blocks.specs.declared.fault.TypeFault.{TypeFault}
-use Rattle.fb_types_blocks.specs.declared.fault.TypeFault.TheVariants as faults
+use Rattle.fb_faults.specs.declared.text.TextFault.{TextFault}
+use Rattle.fb_faults.specs.declared.text.TextFault.TheVariants as texts
+use Rattle.fb_faults.specs.declared.typing.TypeFault.{TypeFault}
+use Rattle.fb_faults.specs.declared.typing.TypeFault.TheVariants as faults
 use Rattle.fb_types_networks.specs.Answers.{Finds as FindsTyped}
-use Rattle.fb_types.specs.Beforehand.{IsRefused}
-use Rattle.fb_cert.specs.declared.fault.CertFault.{CertFault}
-use Rattle.fb_cert.specs.declared.fault.CertFault.TheVariants as certs
-use Rattle.fb_cert.specs.Answers.{Refuses, Finds}
-use Rattle.fb_tree.specs.Sources.{IsSource}
+use Rattle.fb_model.specs.SourceFaults.{IsRefused}
+use Rattle.fb_faults.specs.declared.certificate.CertFault.{CertFault}
+use Rattle.fb_faults.specs.declared.certificate.CertFault.TheVariants as certs
+use Rattle.fb_cert.specs.Answers.{Finds}
+use Rattle.fb_model.specs.RefusedCertificates.{Refuses}
+use Rattle.fb_model.specs.Sources.{IsSource}
 use Rattle.fb_text.specs.Answers.{ReadsText, FindsTree}
-use Rattle.fb_text_laws.specs.Answers.{IsRefusal}
+use Rattle.fb_model.specs.RefusedTexts.{IsRefusal}
 use Rattle.fb_text_laws.proofs.Answered.{answers_are_so}
 use Rattle.fb_verified.specs.Checked.{Checked, system_in, certificate_in}
-use Rattle.fb_verdict.specs.declared.refusal.Refusal.{Refusal}
-use Rattle.fb_verdict.specs.declared.refusal.Refusal.TheVariants.{OutOfMemory, Text, Typing, Certificate as Spelling, UnknownRow, MissingRow, UnknownChannel, MissingChannel, RangeStart, RangeLink, RangeKept, IndexOrDivisor, Charge, Weight, Depth, Far, Channel}
-use Rattle.fb_verdict.specs.Refusals.{of_text, of_type, of_certificate}
+use Rattle.fb_faults.specs.declared.refusal.Refusal.{Refusal}
+use Rattle.fb_faults.specs.declared.refusal.Refusal.TheVariants.{OutOfMemory, Text, Typing, Certificate as Spelling, UnknownRow, MissingRow, UnknownChannel, MissingChannel, RangeStart, RangeLink, RangeKept, IndexOrDivisor, Charge, Weight, Depth, Far, Channel}
+use Rattle.fb_faults.specs.Refusals.{of_text, of_type, of_certificate}
 use Rattle.fb_model.specs.Certificates.{Fits}
 use Rattle.fb_types.specs.declared.typed.Configuration.{Configuration}
 use Rattle.fb_types.specs.Views.{system_of, system_offsets, all_offsets}
-use Rattle.fb_types.specs.Written.{IsSystemOf}
-use Rattle.fb_verdict.specs.Verdicts.{IsTypedOf, IsTypingFault, IsTextFault, IsCertificateFault, IsOfTexts}
+use Rattle.fb_model.specs.Written.{IsSystemOf}
+use Rattle.fb_verdict.specs.Verdicts.{IsTypedOf, IsOfTexts}
+use Rattle.fb_model.specs.Verdicts.{IsTypingFault, IsTextFault, IsCertificateFault}
 
 pub typing_fault : (source : SourceTree) (f : TypeFault) → IsRefused source f → IsTypingFault source (of_type f)
 typing_fault source faults.OutOfMemory h = tt

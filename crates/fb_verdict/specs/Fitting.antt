@@ -2,7 +2,7 @@
 use Rattle.std.specs.List.{AllByRecursion}
 use Rattle.fb_model.specs.System.{System}
 use Rattle.fb_model.specs.Certificates.{Certificate, FollowsFew, AllRows, DeviceFits}
-use Rattle.fb_check_ranges.specs.Fitting.{AllClear}
+use Rattle.fb_model.specs.Misfits.{AllClear}
 
 -- all but the network
 pub record FitsAlone (system : System) (cert : Certificate) : Type 0 where

@@ -1,4 +1,3 @@
-pub mod Refusals
 pub mod Faults
 pub mod Fitting
 pub mod Verdicts

@@ -3,11 +3,9 @@
 //! is not said. What is accepted is a `Verified` of `fb_verified`, which fits by an invariant of its type.
 #![tactic(auto)]
 
-mod refusal;
 mod texts;
 mod verdict;
 
 pub use fb_verified::{Verified, devices_hold};
-pub use refusal::Refusal;
 pub use texts::read_system;
 pub use verdict::{check, check_text};

@@ -9,29 +9,33 @@ ghost use Rattle.fb_model.specs.EventBlocks.{Elaborates};
 ghost use Rattle.fb_model.specs.Certificates as book;
 ghost use Rattle.fb_model.specs.CertificateText.{Spells, most_characters};
 ghost use Rattle.fb_cert.specs.Views.{certificate_of};
-ghost use Rattle.fb_tree.specs.Sources.{IsSource};
+ghost use Rattle.fb_model.specs.Sources.{IsSource};
 ghost use Rattle.fb_types.specs.declared.typed.Configuration as systems;
 ghost use Rattle.fb_types.specs.Views.{system_of};
 ghost use Rattle.fb_flat.specs.Leaves.{flat_device, written_device};
 ghost use Rattle.fb_model.specs.Certificates.{FollowsFew, FarFits, Fits};
-ghost use Rattle.fb_check_columns.specs.declared.fault.Shortfall.{Shortfall};
+ghost use Rattle.fb_faults.specs.declared.shortfall.Shortfall.{Shortfall};
 ghost use Rattle.fb_flat.specs.Tables.{AreDevices};
-ghost use Rattle.fb_check_ranges.specs.Fitting.{AllClear};
-ghost use Rattle.fb_check_columns.specs.Fitting.{AllPay, AreKnown, IsUnpaid};
+ghost use Rattle.fb_model.specs.Misfits.{AllClear};
+ghost use Rattle.fb_check_columns.specs.Fitting.{AllPay, AreKnown};
+ghost use Rattle.fb_model.specs.Misfits.{IsUnpaid};
 ghost use Rattle.fb_verdict.specs.Fitting.{FitsAlone};
-ghost use Rattle.fb_verdict.specs.Refusals.{of_far};
+ghost use Rattle.fb_faults.specs.Refusals.{of_far};
 ghost use Rattle.fb_verdict.specs.Faults.{IsFitFault};
 ghost use Rattle.fb_verified.specs.Checked.{system_in, certificate_in};
-ghost use Rattle.fb_types.specs.Written.{IsWritten};
-ghost use Rattle.fb_verdict.specs.Verdicts.{IsOfTexts, IsFaultOf};
-ghost use Rattle.fb_lex.specs.declared.fault.TextFault.TheVariants as texts;
-ghost use Rattle.fb_verdict.specs.declared.refusal.Refusal.TheVariants.{OutOfMemory};
-ghost use Rattle.fb_verdict.specs.declared.refusal.Refusal.TheVariants as refusals;
+ghost use Rattle.fb_model.specs.Written.{IsWritten};
+ghost use Rattle.fb_verdict.specs.Verdicts.{AreGiven, IsOfTexts, verdict_of};
+ghost use Rattle.fb_model.specs.Verdicts.{IsFaultOf, StandIn};
+ghost use Rattle.fb_model.specs.Promises.{AcceptsExactly, RefusesTruly};
+ghost use Rattle.fb_faults.specs.declared.text.TextFault.TheVariants as texts;
+ghost use Rattle.fb_faults.specs.declared.refusal.Refusal.TheVariants.{OutOfMemory};
+ghost use Rattle.fb_faults.specs.declared.refusal.Refusal.TheVariants as refusals;
 
-use crate::refusal::Refusal;
+use fb_faults::Refusal;
 use crate::texts::{read_certificate, read_system};
 use fb_cert::Certificate;
-use fb_check_columns::{Column, Shortfall, channels_pay, column_pays};
+use fb_faults::Shortfall;
+use fb_check_columns::{Column, channels_pay, column_pays};
 use fb_check_ranges::rows_clear;
 use fb_check_rows::{depths_fit, rows_match};
 use fb_flat::{Flat, flatten};
@@ -153,6 +157,8 @@ fn verified(alloc: Global, typed: Typed, certificate: Certificate) -> Result<Ver
 /// `Depth`, `Far`, `Channel`, or with `Limit` where too many connections are followed: each only where it is so, and none, unless memory runs out, where
 /// the certificate fits.
 pub fn check(alloc: Global, typed: Typed, certificate: Certificate) -> Result<Verified, Refusal>
+    ensures exactly { AcceptsExactly (AreGiven (system_of typed) (certificate_of certificate)) (verdict_of result) }
+    ensures truly { RefusesTruly (IsFitFault typed (certificate_of certificate)) (verdict_of result) }
     ensures same { IfOk result (λ v. (system_in v ≡ system_of typed) × (certificate_in v ≡ certificate_of certificate)) }
     ensures fits { OnOk result (Fits (system_of typed) (certificate_of certificate)) }
     ensures refused { IfErr result (IsFitFault typed (certificate_of certificate)) }
@@ -161,11 +167,8 @@ pub fn check(alloc: Global, typed: Typed, certificate: Certificate) -> Result<Ve
     verified(alloc, typed, certificate)
 }
 
-/// The verdict over the text of an application and the text of a certificate.
-///
-/// It accepts just where the first is spelled and well typed, the second is spelled, and the certificate fits, unless memory runs out or a text is
-/// too long. What a refusal says is so.
-pub fn check_text(alloc: Global, text: &str, certificate: &str) -> Result<Verified, Refusal>
+// The verdict over two texts, case by case.
+fn judge(alloc: Global, text: &str, certificate: &str) -> Result<Verified, Refusal>
     ensures accepted { IfOk result (IsOfTexts text.now certificate.now) }
     ensures within { IfOk result (λ v. (length text.now ≤ text_limit) × (length certificate.now ≤ most_characters)) }
     ensures long { text_limit < length text.now → result ≡ Err (refusals.Text texts.TooLong) }
@@ -183,4 +186,21 @@ pub fn check_text(alloc: Global, text: &str, certificate: &str) -> Result<Verifi
         },
         Err(refusal) => Err(refusal),
     }
+}
+
+/// The verdict over the text of an application and the text of a certificate: it accepts exactly what fits, and refuses truly. The other clauses say both case by case.
+///
+/// It accepts just where the first is spelled and well typed, the second is spelled, and the certificate fits, unless memory runs out or a text is
+/// too long. What a refusal says is so.
+pub fn check_text(alloc: Global, text: &str, certificate: &str) -> Result<Verified, Refusal>
+    ensures exactly { AcceptsExactly (StandIn text.now certificate.now) (verdict_of result) }
+    ensures truly { RefusesTruly (IsFaultOf text.now certificate.now) (verdict_of result) }
+    ensures accepted { IfOk result (IsOfTexts text.now certificate.now) }
+    ensures within { IfOk result (λ v. (length text.now ≤ text_limit) × (length certificate.now ≤ most_characters)) }
+    ensures long { text_limit < length text.now → result ≡ Err (refusals.Text texts.TooLong) }
+    ensures refused { IfErr result (IsFaultOf text.now certificate.now) }
+    ensures accepts { (source : SourceTree) (system : System) (rows : book.Certificate) → length text.now ≤ text_limit → length certificate.now ≤ most_characters
+        → IsSource text.now source → Elaborates source system → Spells certificate.now rows → Fits system rows → IfErr result (λ f. f ≡ OutOfMemory) }
+{
+    judge(alloc, text, certificate)
 }

@@ -11,7 +11,7 @@ use Rattle.fb_model.specs.NetworkTyping.{ElaboratesWith}
 use Rattle.fb_model_laws.specs.Words.{IsWordyDevice}
 use Rattle.fb_model_laws.proofs.Systems.{wordy}
 use Rattle.fb_model_laws.proofs.Holding.{fitting_devices_hold}
-use Rattle.fb_types.specs.Written.{IsWritten}
+use Rattle.fb_model.specs.Written.{IsWritten}
 use Rattle.fb_types.proofs.Beforehand.{elaborated_with}
 use Rattle.fb_types_events.specs.declared.library.TheConstants.{EVENT_BLOCKS}
 use Rattle.fb_types_events.proofs.EventTrees.{event_trees, event_source}

@@ -6,7 +6,7 @@ use Rattle.fb_model.specs.Certificates.{Fits}
 use Rattle.fb_model.specs.CertificateText.{IsTold}
 use Rattle.fb_types.specs.declared.typed.Configuration.{Configuration}
 use Rattle.fb_types.specs.Views.{system_of}
-use Rattle.fb_types.specs.Written.{IsWritten}
+use Rattle.fb_model.specs.Written.{IsWritten}
 use Rattle.fb_flat.specs.declared.flat.Flat.{Flat}
 use Rattle.fb_flat.specs.Leaves.{flat_device, written_device}
 use Rattle.fb_cert.specs.Rows.{Rows}

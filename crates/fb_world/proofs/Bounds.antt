@@ -11,7 +11,8 @@ use Rattle.fb_model.specs.World as book
 use Rattle.fb_model.specs.World.{World, WorldEvent, WorldAnswer, WorldHappens, AreWithin}
 use Rattle.fb_model.proofs.Networks.{fits_pays}
 use Rattle.fb_model_worlds.proofs.Running.{measure_event, measure_run, bounds_roots}
-use Rattle.fb_model_causes.proofs.Bounding.{has_arrivals}
+use Rattle.fb_model_causes.proofs.Bounding.{has_arrivals, bounds_one}
+use Rattle.fb_model.specs.Promises.{KeepsFar}
 use Rattle.fb_verified.specs.declared.verified.Verified.{Verified}
 use Rattle.fb_verified.specs.Checked as checks
 use Rattle.fb_verified.specs.Checked.{system_in, IsChecked}
@@ -21,7 +22,7 @@ use Rattle.fb_world_course.specs.declared.station.Root.{Root}
 use Rattle.fb_world_course.specs.declared.station.Station.{Station}
 use Rattle.fb_world_course.specs.declared.course.Course.{Course}
 use Rattle.fb_world_course.specs.Scenes.{root_in, opening_place, world_in}
-use Rattle.fb_world.specs.Laws.{Falls, FallsOver, IsTold}
+use Rattle.fb_model.specs.Causes.{Falls, FallsOver, IsTold}
 use Rattle.fb_world_course.specs.Keeping.{IsReached, IsRoot, IsKept}
 use Rattle.fb_lists.proofs.Lists.{all_got, within_got, same_at}
 use Rattle.fb_world_course.proofs.Lists.{some_same, some_none, all_by, got_there}
@@ -65,7 +66,7 @@ falls_over v old new es as' c reached r i run =
     measure_run (system_in v) (checks.certificate_in v) (all_hold v c) r (fits_pays (system_in v) (checks.certificate_in v) r (c.fits.far r i)) (few_repeats (checks.certificate_in v) r c.told i) es as' old new (reached_sound v old c reached) run
 
 -- the roots of a run are its arrivals
-pub reached_told : (v : Verified) (w : World) → IsChecked v → IsReached (system_in v) (checks.certificate_in v) w → IsTold (system_in v) (checks.certificate_in v) w
+reached_told : (v : Verified) (w : World) → IsChecked v → IsReached (system_in v) (checks.certificate_in v) w → IsTold (system_in v) (checks.certificate_in v) w
 reached_told v w c r =
     record {
       first = r.first;
@@ -74,6 +75,16 @@ reached_told v w c r =
       is_first = r.is_first;
       run = r.run;
       arrivals = has_arrivals (system_in v) (checks.certificate_in v) (all_hold v c) r.first r.is_first r.events r.answers w r.run;
+    }
+
+-- so FAR is kept
+pub reached_kept : (v : Verified) (w : World) → IsChecked v → IsReached (system_in v) (checks.certificate_in v) w → KeepsFar (system_in v) (checks.certificate_in v) w
+reached_kept v w c r =
+    record {
+      told = reached_told v w c r;
+      arrivals = λ es as' new repeats total arrival opening run e few a was t within.
+        bounds_one (system_in v) (checks.certificate_in v) (all_hold v c) r.first r.is_first es as' new run (λ m i. fits_pays (system_in v) (checks.certificate_in v) m (c.fits.far m i)) repeats total arrival opening e few a was t within;
+      far = λ m n e opened within. root_bounded v w c r m n e opened.0 opened.1 within;
     }
 
 pub if_some : (o : Option ℕ) (P Q : ℕ → Type 0) → ((x : ℕ) → P x → Q x) → IfSome o P → IfSome o Q

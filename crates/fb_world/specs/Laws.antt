@@ -1,28 +1,7 @@
 -- What the laws of worlds say of a call.
-use Rattle.std.specs.Prelude.{ℕ, ◌≡◌, ◌+◌, ◌<◌, ◌≤◌, List, Some, None}
-use Rattle.fb_model.specs.System.{System}
-use Rattle.fb_model.specs.Certificates.{Certificate}
-use Rattle.fb_model.specs.World.{Datagram, datagram_numbered, World, WorldEvent, WorldAnswer, WorldRun, IsFirst}
-use Rattle.fb_model_worlds.specs.Worlds.{MeasureFalls, MeasureFallsOver}
-use Rattle.fb_model_causes.specs.Causes.{HasArrivals}
+use Rattle.std.specs.Prelude.{ℕ, ◌≡◌, ◌<◌, ◌≤◌, List, Some, None}
+use Rattle.fb_model.specs.World.{Datagram, datagram_numbered}
 use Rattle.fb_world.specs.declared.answer.TooOften.{TooOften}
-
--- what an event does to the measures of roots, where the certificate has a row REPEATS
-abbrev pub Falls : System → Certificate → World → WorldEvent → WorldAnswer → World → Type 0
-Falls system cert old event answer new = (repeats : ℕ) → cert.repeats ≡ Some repeats → MeasureFalls system cert repeats old event answer new
-
--- and what a run does
-abbrev pub FallsOver : System → Certificate → World → List WorldEvent → List WorldAnswer → World → Type 0
-FallsOver system cert old es as' new = (repeats : ℕ) → cert.repeats ≡ Some repeats → (run : WorldRun system cert old es as' new) → MeasureFallsOver system cert repeats old es as' new run
-
--- a run from the first world leads to this one, and its roots are its arrivals
-pub record IsTold (system : System) (cert : Certificate) (w : World) : Type 0 where
-  pub first : World
-  pub events : List WorldEvent
-  pub answers : List WorldAnswer
-  pub is_first : IsFirst system first
-  pub run : WorldRun system cert first events answers w
-  pub arrivals : HasArrivals system cert first events answers w run
 
 -- ---- admissions that are not paid for
 

@@ -1,7 +1,8 @@
 -- What a world is of its texts.
 use Rattle.std.specs.Prelude.{ℕ, ◌≡◌, List}
 use Rattle.fb_model.specs.World.{IsFirst}
-use Rattle.fb_verdict.specs.Verdicts.{IsOfTexts, IsFaultOf}
+use Rattle.fb_verdict.specs.Verdicts.{IsOfTexts}
+use Rattle.fb_model.specs.Verdicts.{IsFaultOf}
 use Rattle.fb_device.specs.declared.refusal.Refusal.{Refusal}
 use Rattle.fb_device.specs.declared.refusal.Refusal.TheVariants.{Checked, NoDevice, Limit}
 use Rattle.fb_device_state.specs.Sessions.{Session}

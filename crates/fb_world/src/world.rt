@@ -11,15 +11,17 @@ ghost use Rattle.fb_model.specs.CertificateText.{Spells, most_characters};
 ghost use Rattle.fb_model.specs.EventBlocks.{Elaborates};
 ghost use Rattle.fb_model.specs.World.{IsFirst, WorldHappens, WorldRun, AreWithin, root_steps, At_device, A_dispatch, Answered};
 ghost use Rattle.fb_device_dispatch.specs.Answers.{dispatched_of, HasPoint};
-ghost use Rattle.fb_model_worlds.specs.Worlds.{IsWorldSound};
-ghost use Rattle.fb_tree.specs.Sources.{IsSource};
+ghost use Rattle.fb_model.specs.Worlds.{IsWorldSound};
+ghost use Rattle.fb_model.specs.Sources.{IsSource};
 ghost use Rattle.fb_verified.specs.Lookups.{is_same_path};
 ghost use Rattle.fb_device.specs.Refusals.{no_memory};
 ghost use Rattle.fb_world_course.specs.Scenes.{system_of, cert_of, world_of};
 ghost use Rattle.fb_world_course.specs.Answers.{event_of, device_of, leaves_at, answer_of, answers_of, HasWorldPlace, HaveWorldPlaces};
 ghost use Rattle.fb_world.specs.Answers.{steps_of, HasMissed};
 ghost use Rattle.fb_world_course.specs.Keeping.{IsReached};
-ghost use Rattle.fb_world.specs.Laws.{AreSeldom, Falls, FallsOver, IsNextOften, IsTold, IsTooOften};
+ghost use Rattle.fb_world.specs.Laws.{AreSeldom, IsNextOften, IsTooOften};
+ghost use Rattle.fb_model.specs.Causes.{Falls, FallsOver};
+ghost use Rattle.fb_model.specs.Promises.{KeepsFar};
 ghost use Rattle.fb_world.specs.Loads.{IsWorldOf, IsWorldFault, IsDeviceAt};
 
 use crate::answer::{Missed, RootSteps, TooOften};
@@ -97,11 +99,11 @@ impl World {
         release(verified);
     }
 
-    /// That a run leads from the first world to this one, so that it is sound, and its roots are the arrivals of this run, for proofs: nothing is done.
+    /// That a run leads from the first world to this one, so that it is sound and keeps FAR, for proofs: nothing is done.
     pub fn holds(&self)
         ensures reached { IsReached (system_of self.now) (cert_of self.now) (world_of self.now) }
         ensures sound { IsWorldSound (system_of self.now) (cert_of self.now) (world_of self.now) }
-        ensures told { IsTold (system_of self.now) (cert_of self.now) (world_of self.now) }
+        ensures kept { KeepsFar (system_of self.now) (cert_of self.now) (world_of self.now) }
     {
         let _ = &self.course;
     }

@@ -8,7 +8,7 @@ use Rattle.fb_model.specs.Devices.{Machine, Entry, Event, Offer, Tick, Expired, 
 use Rattle.fb_model.specs.Headline.{IsSound, IsKnown}
 use Rattle.fb_model.specs.World.{An_offer, A_tick, At_device, Answered, OpensCauses, roots_from}
 use Rattle.fb_model.proofs.Lists.{all_weaker}
-use Rattle.fb_model_worlds.specs.Worlds.{IsWorldSound}
+use Rattle.fb_model.specs.Worlds.{IsWorldSound}
 use Rattle.fb_model_worlds.proofs.Cases.{device_holds}
 use Rattle.fb_model_worlds.proofs.Growing.{offer_grows, tick_grows}
 use Rattle.fb_verified.specs.declared.verified.Verified.{Verified}

@@ -13,7 +13,7 @@ use Rattle.fb_model.specs.Devices as book
 use Rattle.fb_model.specs.Devices.{Machine, put, Happens}
 use Rattle.fb_model.specs.World as worlds
 use Rattle.fb_model.specs.World.{A_dispatch, At_device, Answered, AddsSteps, posted, number_sent, stepped, forgotten}
-use Rattle.fb_model_worlds.specs.Worlds.{IsOpened, IsWorldSound}
+use Rattle.fb_model.specs.Worlds.{IsOpened, IsWorldSound}
 use Rattle.fb_verified.specs.declared.verified.Verified.{Verified}
 use Rattle.fb_verified.specs.Checked.{system_in, certificate_in}
 use Rattle.fb_chart.specs.declared.standing.Effect.{Effect}

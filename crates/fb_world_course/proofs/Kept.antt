@@ -9,7 +9,7 @@ use Rattle.std.proofs.lemmas.Bool.{eqb-true}
 use Rattle.fb_model.specs.System.{System, Device}
 use Rattle.fb_model.specs.Certificates.{Certificate}
 use Rattle.fb_model.specs.World.{World, Datagram, Local, WorldEvent, At_device, Deliver_datagram, WorldAnswer, Unknown, IsUnknown, WorldHappens, WorldRun}
-use Rattle.fb_model_worlds.specs.Worlds.{AllHold, IsWorldSound}
+use Rattle.fb_model.specs.Worlds.{AllHold, IsWorldSound}
 use Rattle.fb_model_worlds.proofs.Beginning.{first_is_sound}
 use Rattle.fb_model_worlds.proofs.Running.{sound_run}
 use Rattle.fb_verified.specs.declared.verified.Verified.{Verified}

@@ -1,9 +1,9 @@
 -- The text that several files are together: this project's profile.
 use Rattle.std.specs.Prelude.{◌≡◌, ◌⊎◌, ℕ, List, [], ◌∷◌, Option}
 use Rattle.fb_lex.specs.Lexing.{Refuses}
-use Rattle.fb_lex.specs.declared.fault.TextFault.{TextFault}
-use Rattle.fb_lex.specs.declared.fault.TextFault.TheVariants as texts
-use Rattle.fb_verdict.specs.declared.refusal.Refusal.TheVariants.{Text}
+use Rattle.fb_faults.specs.declared.text.TextFault.{TextFault}
+use Rattle.fb_faults.specs.declared.text.TextFault.TheVariants as texts
+use Rattle.fb_faults.specs.declared.refusal.Refusal.TheVariants.{Text}
 use Rattle.fbr_files.specs.declared.fault.Fault.{Fault}
 use Rattle.fbr_files.specs.declared.fault.Fault.TheVariants.{Memory, Refused}
 use Rattle.fbr_files.specs.Outcomes.{IsContents, IsReadFault}

@@ -1,6 +1,7 @@
 //! The tokens before a place, and whether the grammar goes on with others there.
 
-use fb_lex::{Kind, TextFault, Token};
+use fb_faults::TextFault;
+use fb_lex::{Kind, Token};
 use fb_text::parse_tokens;
 use fb_words::Mark;
 use fbr_advice::tokens::{closer_of, mark_of, open_before};

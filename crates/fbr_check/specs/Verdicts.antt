@@ -2,6 +2,7 @@
 use Rattle.std.specs.Prelude.{◌≡◌, ◌≤◌, ℕ, true, ◌⊎◌, List, length, Option, Result, Ok, Err}
 use Rattle.std.specs.Str.{is_utf8}
 use Rattle.fb_verdict.specs.Verdicts as verdicts
+use Rattle.fb_model.specs.Verdicts as truths
 use Rattle.fb_verified.specs.declared.verified.Verified.{Verified}
 use Rattle.fbr_files.specs.declared.fault.Fault.{Fault}
 use Rattle.fbr_files.specs.declared.fault.Fault.TheVariants.{Memory, Input, File, Refused}
@@ -12,7 +13,7 @@ use Rattle.fbr_check.specs.Halves.{divide}
 abbrev pub IsVerdict : {A : Type 0} → List ℕ → List ℕ → Result A Fault → Type 0
 IsVerdict app cert (Ok a) = (v : Verified) × verdicts.IsOfTexts app cert v
 IsVerdict app cert (Err Memory) = Unit {0}
-IsVerdict app cert (Err (Refused refusal)) = verdicts.IsFaultOf app cert refusal
+IsVerdict app cert (Err (Refused refusal)) = truths.IsFaultOf app cert refusal
 IsVerdict app cert (Err other) = ⊥
 
 -- bytes hold two texts: they are within the limit, and both halves are UTF-8

@@ -4,7 +4,8 @@ ghost use Rattle.std.specs.Prelude.{List, ℕ, Option};
 ghost use Rattle.fbr_files.specs.Reading.{IsRead};
 ghost use Rattle.fbr_check.specs.Verdicts.{IsVerdict, IsVerifiedTexts, IsVerified};
 
-use fb_verdict::{Refusal, check_text};
+use fb_faults::Refusal;
+use fb_verdict::check_text;
 use fb_verified::Verified;
 use fbr_files::{Fault, FileText};
 use std::alloc::Global;

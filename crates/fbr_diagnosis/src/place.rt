@@ -1,9 +1,9 @@
 //! Where in a text a refusal stands.
 
-use fb_cert::CertFault;
-use fb_lex::TextFault;
-use fb_types::TypeFault;
-use fb_verdict::Refusal;
+use fb_faults::CertFault;
+use fb_faults::TextFault;
+use fb_faults::TypeFault;
+use fb_faults::Refusal;
 use fbr_places::Declared;
 
 // The byte that the refusal of a text names.

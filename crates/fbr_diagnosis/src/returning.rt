@@ -2,7 +2,8 @@
 
 use crate::paths::Paths;
 use fb_find::find;
-use fb_find_rows::{NoBound, Place};
+use fb_faults::NoBound;
+use fb_faults::Place;
 use fb_flat::Leaf;
 use fb_verified::Verified;
 use fbr_leaves::{channel_of, received_from, system_in};

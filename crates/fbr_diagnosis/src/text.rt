@@ -2,10 +2,11 @@
 
 use crate::diagnosis::{Advised, Asked, Finding};
 use crate::reading::Reading;
-use fb_lex::{TextFault, Token};
+use fb_faults::TextFault;
+use fb_lex::Token;
 use fb_tree::FileTree;
-use fb_types::TypeFault;
-use fb_verdict::Refusal;
+use fb_faults::TypeFault;
+use fb_faults::Refusal;
 use fbr_advice::advice::Advice;
 use fbr_advice::tokens::{index_at, name_of};
 use fbr_advice::wanted::Cursor;

@@ -1,6 +1,6 @@
 //! What of a walk is drawn.
 
-use fb_find_rows::Place;
+use fb_faults::Place;
 use fbr_needs::Step;
 
 // Whether a path is that of something in a leaf.

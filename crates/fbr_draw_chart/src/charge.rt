@@ -1,7 +1,7 @@
 //! What it costs to enter the states of a block type.
 
 use fb_cert::{Amount, Certificate};
-use fb_find_rows::Place;
+use fb_faults::Place;
 use fb_tree::FileTree;
 use fbr_draw::Picture;
 use fbr_places::instance_at;

@@ -1,6 +1,6 @@
 //! Walks, told place by place.
 
-use fb_find_rows::Place;
+use fb_faults::Place;
 use fbr_needs::{Step, Way};
 use fbr_places::Writing;
 

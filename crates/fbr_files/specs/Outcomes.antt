@@ -2,8 +2,8 @@
 use Rattle.std.specs.Prelude.{◌≡◌, ◌≤◌, ℕ, true, ◌⊎◌, List, [], ◌∷◌, ◌++◌, length, Option, Some, None, Result, Ok, Err, codes, string_bytes}
 use Rattle.std.specs.Io.KnownBytes.{Appends}
 use Rattle.std.specs.Fmt.{decimal}
-use Rattle.fb_verdict.specs.Refusals as refusals
-use Rattle.fb_find_rows.specs.Codes as finding
+use Rattle.fb_faults.specs.Refusals as refusals
+use Rattle.fb_faults.specs.NoBounds as finding
 use Rattle.fbr_files.specs.declared.fault.Fault.{Fault}
 use Rattle.fbr_files.specs.declared.fault.Fault.TheVariants.{Memory, Input, File, Line, Usage, Refused, Unbound, Device, LinkDown, Socket}
 use Rattle.fbr_files.specs.Statuses.{status_of_code, status_of_no_bound}

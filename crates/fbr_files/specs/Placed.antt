@@ -2,12 +2,12 @@
 use Rattle.std.specs.Prelude.{ℕ, ◌-◌, List, [], ◌∷◌, ◌++◌, Option, Some, None, codes, option_map, if◌then◌else◌}
 use Rattle.std.specs.Str.{bytes_eq}
 use Rattle.std.specs.Fmt.{decimal}
-use Rattle.fb_lex.specs.declared.fault.TextFault.{TextFault}
-use Rattle.fb_lex.specs.declared.fault.TextFault.TheVariants as texts
-use Rattle.fb_types_blocks.specs.declared.fault.TypeFault.{TypeFault}
-use Rattle.fb_types_blocks.specs.declared.fault.TypeFault.TheVariants as types
-use Rattle.fb_verdict.specs.declared.refusal.Refusal.{Refusal}
-use Rattle.fb_verdict.specs.declared.refusal.Refusal.TheVariants.{Text, Typing}
+use Rattle.fb_faults.specs.declared.text.TextFault.{TextFault}
+use Rattle.fb_faults.specs.declared.text.TextFault.TheVariants as texts
+use Rattle.fb_faults.specs.declared.typing.TypeFault.{TypeFault}
+use Rattle.fb_faults.specs.declared.typing.TypeFault.TheVariants as types
+use Rattle.fb_faults.specs.declared.refusal.Refusal.{Refusal}
+use Rattle.fb_faults.specs.declared.refusal.Refusal.TheVariants.{Text, Typing}
 use Rattle.fbr_files.specs.declared.fault.Fault.{Fault}
 use Rattle.fbr_files.specs.declared.fault.Fault.TheVariants.{Refused}
 use Rattle.fbr_files.specs.Outcomes.{Outcome, code_of, line_of, status_of}

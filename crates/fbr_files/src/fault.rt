@@ -3,8 +3,8 @@
 ghost use Rattle.std.specs.Prelude.{◌≡◌, ◌≤◌};
 ghost use Rattle.fbr_files.specs.Statuses.{status_of_code, status_of_no_bound};
 
-use fb_find_rows::NoBound;
-use fb_verdict::Refusal;
+use fb_faults::NoBound;
+use fb_faults::Refusal;
 use std::alloc::AllocError;
 use std::fmt;
 

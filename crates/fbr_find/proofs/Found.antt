@@ -4,10 +4,11 @@ use Rattle.std.specs.Prelude.{IfErr, MatchResult}
 use Rattle.fb_model.specs.System.{System}
 use Rattle.fb_model.specs.Certificates.{Fits}
 use Rattle.fb_cert.specs.Views.{Rows, book_of}
-use Rattle.fb_find.specs.Bounds.{IsNoBound, RowsStand}
-use Rattle.fb_find_laws.specs.Finding.{IsFound}
-use Rattle.fb_find_rows.specs.declared.fault.NoBound.{NoBound}
-use Rattle.fb_find_rows.specs.declared.fault.NoBound.TheVariants.{OutOfMemory, Cycle, NoRange, Limit}
+use Rattle.fb_find.specs.Bounds.{RowsStand}
+use Rattle.fb_model.specs.Finding.{IsNoBound}
+use Rattle.fb_model.specs.Finding.{IsFound}
+use Rattle.fb_faults.specs.declared.no_bound.NoBound.{NoBound}
+use Rattle.fb_faults.specs.declared.no_bound.NoBound.TheVariants.{OutOfMemory, Cycle, NoRange, Limit}
 use Rattle.fb_find_search.specs.Searching.{IsFoundSomehow, IsSearched, IsNoBoundKeeping}
 use Rattle.fbr_files.specs.declared.fault.Fault.{Fault}
 use Rattle.fbr_files.specs.declared.fault.Fault.TheVariants.{Memory}

@@ -12,9 +12,9 @@ use Rattle.fb_types.specs.declared.typed.Configuration.{Configuration}
 use Rattle.fb_types.specs.Views.{system_of}
 use Rattle.fb_cert.specs.Views.{Rows, book_of}
 use Rattle.fb_cert.specs.Printed.{printed}
-use Rattle.fb_cert.specs.declared.fault.CertFault.TheVariants.{TooLong}
+use Rattle.fb_faults.specs.declared.certificate.CertFault.TheVariants.{TooLong}
 use Rattle.fb_verdict.specs.Verdicts.{IsTypedOf}
-use Rattle.fb_verdict.specs.declared.refusal.Refusal.TheVariants as refusals
+use Rattle.fb_faults.specs.declared.refusal.Refusal.TheVariants as refusals
 use Rattle.fbr_files.specs.declared.fault.Fault.{Fault}
 use Rattle.fbr_files.specs.declared.fault.Fault.TheVariants.{Memory, Input, File, Line, Usage, Refused, Unbound, Device, LinkDown, Socket}
 use Rattle.fbr_files.specs.Outcomes.{IsContents, IsReadFault}

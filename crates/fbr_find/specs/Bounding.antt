@@ -8,18 +8,20 @@ use Rattle.fb_model.specs.Certificates as book
 use Rattle.fb_model.specs.Certificates.{Fits}
 use Rattle.fb_model.specs.CertificateText.{Spells, most_characters}
 use Rattle.fb_model_lengths.specs.Lengths.{least_length}
-use Rattle.fb_tree.specs.Sources.{IsSource}
+use Rattle.fb_model.specs.Sources.{IsSource}
 use Rattle.fb_types.specs.declared.typed.Configuration.{Configuration}
 use Rattle.fb_types.specs.Views.{system_of}
-use Rattle.fb_cert.specs.declared.fault.CertFault.TheVariants.{TooLong}
+use Rattle.fb_faults.specs.declared.certificate.CertFault.TheVariants.{TooLong}
 use Rattle.fb_cert.specs.Views.{Rows, book_of}
 use Rattle.fb_cert.specs.Printed.{printed}
-use Rattle.fb_verdict.specs.Verdicts.{IsTypedOf, IsTextFault, IsCertificateFault}
-use Rattle.fb_verdict.specs.declared.refusal.Refusal.TheVariants as refusals
-use Rattle.fb_find.specs.Bounds.{IsNoBound, RowsStand}
-use Rattle.fb_find_laws.specs.Finding.{IsFound}
-use Rattle.fb_find_rows.specs.declared.fault.NoBound.{NoBound}
-use Rattle.fb_find_rows.specs.declared.fault.NoBound.TheVariants.{OutOfMemory, Cycle, NoRange, Limit}
+use Rattle.fb_verdict.specs.Verdicts.{IsTypedOf}
+use Rattle.fb_model.specs.Verdicts.{IsTextFault, IsCertificateFault}
+use Rattle.fb_faults.specs.declared.refusal.Refusal.TheVariants as refusals
+use Rattle.fb_find.specs.Bounds.{RowsStand}
+use Rattle.fb_model.specs.Finding.{IsNoBound}
+use Rattle.fb_model.specs.Finding.{IsFound}
+use Rattle.fb_faults.specs.declared.no_bound.NoBound.{NoBound}
+use Rattle.fb_faults.specs.declared.no_bound.NoBound.TheVariants.{OutOfMemory, Cycle, NoRange, Limit}
 use Rattle.fb_find_room.specs.Room.{roomy_rows}
 use Rattle.fb_find_search.specs.Searching.{IsFoundSomehow, IsSearched, IsNoBoundKeeping}
 use Rattle.fbr_files.specs.declared.fault.Fault.{Fault}

@@ -1,7 +1,7 @@
 //! Walks, place by place.
 
 use crate::places::put_place;
-use fb_find_rows::Place;
+use fb_faults::Place;
 use fbr_diagnosis::{Asked, Diagnosis};
 use fbr_needs::{Step, Way};
 use fbr_objects::{List, Object};

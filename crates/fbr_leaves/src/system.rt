@@ -3,9 +3,10 @@
 use fb_flat::{Flat, flatten};
 use fb_text::{Source, parse};
 use fb_tree::FileTree;
-use fb_types::{TypeFault, Typed};
+use fb_faults::TypeFault;
+use fb_types::Typed;
 use fb_types_events::resolve;
-use fb_verdict::Refusal;
+use fb_faults::Refusal;
 use std::alloc::{AllocError, Global};
 
 /// The source tree of an application's text, and the system that it is.

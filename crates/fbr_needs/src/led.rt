@@ -1,7 +1,7 @@
 //! Where a text says how a place leads to the next one of a walk.
 
 use crate::walk::Way;
-use fb_find_rows::Place;
+use fb_faults::Place;
 use fb_tree::{
     BodyTree, ChartTree, ConnectionTree, FileTree, InstanceTree, NetworkTree, TransitionTree,
 };

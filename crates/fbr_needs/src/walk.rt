@@ -1,7 +1,7 @@
 //! Walks, place by place, and how each place leads to the next.
 
 use crate::led::led_at;
-use fb_find_rows::Place;
+use fb_faults::Place;
 use fb_flat::{Flat, Leaf};
 use fb_tree::FileTree;
 use fbr_leaves::{Numbers, leaves_of, numbered};

@@ -1,6 +1,7 @@
 //! Tokens and source trees of texts. Want of memory is no refusal of a text: it is told apart.
 
-use fb_lex::{TextFault, Token, lex};
+use fb_faults::TextFault;
+use fb_lex::{Token, lex};
 use fb_text::parse_tokens;
 use fb_tree::FileTree;
 use std::alloc::{AllocError, Global};

@@ -2,7 +2,8 @@
 
 use crate::blocks::Blocks;
 use crate::notes::Notes;
-use fb_lex::{TextFault, Token, lex};
+use fb_faults::TextFault;
+use fb_lex::{Token, lex};
 use fb_verified::Verified;
 use fbr_alone::subjects_in;
 use fbr_course::{Case, Failure, Telling, play_sequence};

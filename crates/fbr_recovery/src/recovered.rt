@@ -5,7 +5,7 @@ use crate::numbers::tell_numbers;
 use crate::rings::tell_rings;
 use fb_lex::Token;
 use fb_tree::{BlockTree, BodyTree, DeviceTree, FileTree, SystemTree};
-use fb_types_blocks::TypeFault;
+use fb_faults::TypeFault;
 use fbr_recovery_found::{Found, Lexed, MOST, Mistake, mistake_of, read_tokens};
 use fbr_recovery_text::{Reading, Text, read_text};
 use fbr_recovery_types::{Types, declare};

@@ -1,7 +1,8 @@
 //! Faults that are found.
 
-use fb_lex::{TextFault, Token};
-use fb_types_blocks::TypeFault;
+use fb_faults::TextFault;
+use fb_lex::Token;
+use fb_faults::TypeFault;
 use fb_words::Mark;
 use fbr_advice::tokens::{index_at, mark_of, name_of};
 use indexmap::IndexSet;

@@ -1,6 +1,7 @@
 //! Tokens of a text, whatever characters are in it.
 
-use fb_lex::{TextFault, Token, lex};
+use fb_faults::TextFault;
+use fb_lex::{Token, lex};
 use std::alloc::{AllocError, Global};
 
 /// The tokens of a text, as far as there are any.

@@ -2,10 +2,12 @@
 
 use crate::variables::{declare, known, variables_of};
 use fb_tree::{AlgorithmTree, BlockTree, ChartTree, StateTree, Stmt, TransitionTree};
-use fb_types_blocks::{Face, TypeFault, Variables, basic};
+use fb_faults::TypeFault;
+use fb_types_blocks::{Face, Variables, basic};
 use fbr_recovery_found::Found;
 use indexmap::{IndexMap, IndexSet};
-use st_types::{Scope, TypingFault, Variable, resolve_algorithm, resolve_condition};
+use fb_faults::TypingFault;
+use st_types::{Scope, Variable, resolve_algorithm, resolve_condition};
 use std::alloc::{AllocError, Global};
 use std::slice::from_ref;
 

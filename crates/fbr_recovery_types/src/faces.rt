@@ -2,7 +2,8 @@
 
 use crate::variables::{declare, known, variables_of};
 use fb_tree::{BlockTree, EventTree};
-use fb_types_blocks::{Events, Face, TypeFault, Variables};
+use fb_faults::TypeFault;
+use fb_types_blocks::{Events, Face, Variables};
 use fbr_recovery_found::Found;
 use indexmap::{IndexMap, IndexSet};
 use std::alloc::{AllocError, Global};

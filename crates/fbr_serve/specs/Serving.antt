@@ -16,6 +16,7 @@ use Rattle.fb_link.specs.Socket.{SocketCall, UdpStep}
 use Rattle.fb_turn.specs.Turns.{Turn, Cut, is_cut, Sight, Came, Served, Written, IsTurn, effect_of, writes_for, writes, report_of}
 use Rattle.fb_turn.specs.declared.turning.Report.{Report}
 use Rattle.fb_verdict.specs.Verdicts as verdicts
+use Rattle.fb_model.specs.Verdicts as truths
 use Rattle.fb_verified.specs.Checked as checked
 use Rattle.fb_verified.specs.Lookups.{is_same_path}
 use Rattle.fb_device_state.specs.Sessions.{Session}
@@ -181,7 +182,7 @@ pub record IsStarted (app cert name : List ℕ) (boot : ℕ) (s : Session) : Typ
 -- why there is no device of a name in two texts: want of memory, a fault of a text, or the name
 abbrev pub IsTextsFault : List ℕ → List ℕ → List ℕ → Fault → Type 0
 IsTextsFault app cert name faults.Memory = Unit {0}
-IsTextsFault app cert name (faults.Refused refusal) = verdicts.IsFaultOf app cert refusal
+IsTextsFault app cert name (faults.Refused refusal) = truths.IsFaultOf app cert refusal
 IsTextsFault app cert name (faults.Device shown) = IsUnknown app name × (string_bytes shown ≡ upper name)
 IsTextsFault app cert name other = ⊥
 

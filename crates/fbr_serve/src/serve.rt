@@ -14,7 +14,7 @@ use crate::turns::{Ran, serve_on};
 use fb_device::{Device, Ready, Refusal as LoadRefusal, load_boot};
 use fb_link::UdpLink;
 use fb_record::Recorder;
-use fb_verdict::Refusal;
+use fb_faults::Refusal;
 use fb_wire::Stamp;
 use fbr_files::{Fault, FileText, Keep, print_outcome};
 use fbr_notices::{Shapes, Stop, Sums, Teller};

@@ -1,8 +1,8 @@
 -- What texts are together: this project's profile.
 use Rattle.std.specs.Prelude.{◌≡◌, ℕ, List, length, Option, None, Some}
 use Rattle.fb_lex.specs.Lexing.{Refuses}
-use Rattle.fb_lex.specs.declared.fault.TextFault.{TextFault}
-use Rattle.fb_lex.specs.declared.fault.TextFault.TheVariants.{OutOfMemory, BadCharacter, Syntax, TooDeep, TooLong, BigNumber}
+use Rattle.fb_faults.specs.declared.text.TextFault.{TextFault}
+use Rattle.fb_faults.specs.declared.text.TextFault.TheVariants.{OutOfMemory, BadCharacter, Syntax, TooDeep, TooLong, BigNumber}
 use Rattle.fbr_texts.specs.declared.front.Place.{Place}
 use Rattle.fbr_texts.specs.declared.front.Place.TheVariants.{Between, Within, Opened, Named, Closed, Past}
 use Rattle.fbr_texts.specs.Fronts.{Front, IsFrontOf}

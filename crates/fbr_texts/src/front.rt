@@ -5,7 +5,8 @@ ghost use Rattle.fb_lex.specs.Lexing.{Refuses};
 ghost use Rattle.fb_lex.specs.Views.{token_of, tokens_of};
 ghost use Rattle.fbr_texts.specs.Fronts.{IsFrontOf, at_first, closed, entered, front_of, go_on, is_mark, is_name, named, run, step};
 
-use fb_lex::{Kind, TextFault, Token, lex};
+use fb_faults::TextFault;
+use fb_lex::{Kind, Token, lex};
 use fb_words::Mark;
 use std::alloc::{AllocError, Global};
 

@@ -10,7 +10,7 @@ ghost use Rattle.fbr_texts.specs.Parts.{start_of};
 
 use crate::front::{Front, Place, Span, front_in};
 use crate::meant::Part;
-use fb_lex::TextFault;
+use fb_faults::TextFault;
 use std::alloc::{AllocError, Global};
 
 /// The bytes that are written, the declarations that stand in them, each once, and the files that they come from.

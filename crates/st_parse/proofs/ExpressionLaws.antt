@@ -1,7 +1,7 @@
 -- What reading tells of expressions.
 use Rattle.std.proofs.Common.{◌≡◌, ◌<◌, ◌≤◌, ℕ, suc, List, [], Ok, Err, refl, sym, ap, subst, ◌∙◌, arith, inl, inr}
 use Rattle.std.proofs.lemmas.Bool.{cases_lt}
-use Rattle.fb_lex.specs.declared.fault.TextFault.{TextFault}
+use Rattle.fb_faults.specs.declared.text.TextFault.{TextFault}
 use Rattle.fb_model.specs.Tokens.{Token}
 use Rattle.fb_model.specs.StructuredText.{Expression}
 use Rattle.fb_model.specs.StructuredTextGrammar.{IsExpression, most_nested}

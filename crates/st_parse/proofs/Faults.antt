@@ -2,7 +2,7 @@
 use Rattle.std.proofs.Common.{◌≡◌, ℕ, suc, List, [], Ok, Err, sym, subst, ◌∙◌, inl, inr}
 use Rattle.std.specs.Prelude.{Vec}
 use Rattle.std.specs.Global.{Global}
-use Rattle.fb_lex.specs.declared.fault.TextFault.{TextFault}
+use Rattle.fb_faults.specs.declared.text.TextFault.{TextFault}
 use Rattle.fb_model.specs.Tokens.{Token}
 use Rattle.fb_model.specs.StructuredText.{Statements}
 use Rattle.fb_model.specs.StructuredTextGrammar.{IsAlgorithm, most_nested, most_nested_statements}

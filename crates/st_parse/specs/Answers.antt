@@ -1,7 +1,7 @@
 -- What the answers about algorithms say.
 use Rattle.std.specs.Prelude.{ℕ, List, [], Vec, Result}
 use Rattle.std.specs.Global.{Global}
-use Rattle.fb_lex.specs.declared.fault.TextFault.{TextFault}
+use Rattle.fb_faults.specs.declared.text.TextFault.{TextFault}
 use Rattle.fb_model.specs.Tokens.{Token}
 use Rattle.fb_model.specs.StructuredText.{Statements}
 use Rattle.fb_model.specs.StructuredTextGrammar.{IsAlgorithm, most_nested, most_nested_statements}

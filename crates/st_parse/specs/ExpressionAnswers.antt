@@ -1,6 +1,6 @@
 -- What the parser's answers say.
 use Rattle.std.specs.Prelude.{ℕ, List, [], Result}
-use Rattle.fb_lex.specs.declared.fault.TextFault.{TextFault}
+use Rattle.fb_faults.specs.declared.text.TextFault.{TextFault}
 use Rattle.fb_model.specs.Tokens.{Token}
 use Rattle.fb_model.specs.StructuredText.{Expression}
 use Rattle.fb_model.specs.StructuredTextGrammar.{IsExpression, most_nested}

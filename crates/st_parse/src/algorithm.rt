@@ -12,7 +12,8 @@ ghost use Rattle.st_parse.specs.Reading.{algorithm_at, whole_at};
 ghost use Rattle.st_parse.specs.Answers.{Reads, FindsAlgorithm, SyntaxAt, TooDeepAt};
 
 use crate::statement::list;
-use fb_lex::{TextFault, Token};
+use fb_faults::TextFault;
+use fb_lex::Token;
 use fb_read::{Stop, end_of};
 use fb_tree::Stmt;
 use std::alloc::Global;

@@ -12,7 +12,8 @@ ghost use Rattle.st_parse.specs.ExpressionReading.{whole_at};
 ghost use Rattle.st_parse.specs.ExpressionAnswers.{Reads, FindsExpression, SyntaxAt, DeepAt};
 
 use crate::reading::expression;
-use fb_lex::{TextFault, Token};
+use fb_faults::TextFault;
+use fb_lex::Token;
 use fb_read::{Stop, end_of};
 use fb_tree::Expr;
 use std::alloc::Global;

@@ -2,7 +2,7 @@
 use Rattle.std.proofs.Common.{◌≡◌, ℕ, zero, suc, ◌+◌, ◌<◌, ◌≤◌, List, [], ◌∷◌, ◌++◌, length, map, drop, get_or, Result, Ok, refl, sym, ap, subst, ◌∙◌, arith}
 use Rattle.std.proofs.Math.Seq.{drop-cons}
 use Rattle.fb_model.specs.TextFaults.{Fault}
-use Rattle.st_types.specs.declared.fault.TypingFault.{TypingFault}
+use Rattle.fb_faults.specs.declared.statement.TypingFault.{TypingFault}
 use Rattle.st_types.specs.Answers.{Fails}
 use Rattle.st_types.specs.Elaborating.{◌>>=◌}
 use Rattle.st_types.proofs.Steps.{bind_ok, bind_again, bind_same, fails_then}

@@ -6,7 +6,7 @@ use Rattle.fb_model.specs.StructuredText as text
 use Rattle.fb_model.specs.Names.{Name}
 use Rattle.fb_model.specs.TypedText.{Term, Commands}
 use Rattle.fb_model.specs.TextTyping.{Symbol}
-use Rattle.st_types.specs.declared.fault.TypingFault.{TypingFault}
+use Rattle.fb_faults.specs.declared.statement.TypingFault.{TypingFault}
 use Rattle.st_types.specs.declared.term.TypedExpr.{TypedExpr}
 use Rattle.st_types.specs.declared.command.TypedStmt.{TypedStmt}
 use Rattle.st_types.specs.declared.command.TypedStmt as typed

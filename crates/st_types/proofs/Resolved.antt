@@ -2,8 +2,8 @@
 use Rattle.std.proofs.Common.{◌≡◌, Result, Ok, Err, sym, ◌∙◌}
 use Rattle.std.specs.Prelude.{IfOk}
 use Rattle.fb_model.specs.TextFaults.{Fault, unknown_name, type_mismatch, bad_literal, not_writable}
-use Rattle.st_types.specs.declared.fault.TypingFault.{TypingFault}
-use Rattle.st_types.specs.declared.fault.TypingFault.TheVariants.{OutOfMemory, UnknownName, TypeMismatch, BadLiteral, NotWritable}
+use Rattle.fb_faults.specs.declared.statement.TypingFault.{TypingFault}
+use Rattle.fb_faults.specs.declared.statement.TypingFault.TheVariants.{OutOfMemory, UnknownName, TypeMismatch, BadLiteral, NotWritable}
 use Rattle.st_types.specs.Answers.{Gives, Finds, Refuses}
 use Rattle.st_types.proofs.Rules.{ok_same}
 use Rattle.st_types.proofs.Refusals.{never_err}

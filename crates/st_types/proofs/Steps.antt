@@ -6,8 +6,8 @@ use Rattle.fb_model.specs.StructuredText.{Expression, binary, Link, grouped}
 use Rattle.fb_model.specs.TypedText.{Term, double}
 use Rattle.fb_model.specs.TextTyping.{allows, Symbol, Loose, loose_double, Operand}
 use Rattle.fb_model.specs.TextFaults.{Fault, type_mismatch}
-use Rattle.st_types.specs.declared.fault.TypingFault.{TypingFault}
-use Rattle.st_types.specs.declared.fault.TypingFault.TheVariants.{OutOfMemory, UnknownName, TypeMismatch, BadLiteral, NotWritable}
+use Rattle.fb_faults.specs.declared.statement.TypingFault.{TypingFault}
+use Rattle.fb_faults.specs.declared.statement.TypingFault.TheVariants.{OutOfMemory, UnknownName, TypeMismatch, BadLiteral, NotWritable}
 use Rattle.st_types.specs.Answers.{Fails}
 use Rattle.st_types.specs.Views.{LooseTail, joined_loose}
 use Rattle.st_types.specs.Elaborating.{◌>>=◌, settled, settled_tails, on_two, typed, typed_links}

@@ -1,8 +1,8 @@
 -- What the code's answers are in the words of the definitions.
 use Rattle.std.specs.Prelude.{◌≡◌, Result, Ok, Err}
 use Rattle.fb_model.specs.TextFaults.{Fault, unknown_name, type_mismatch, bad_literal, not_writable}
-use Rattle.st_types.specs.declared.fault.TypingFault.{TypingFault}
-use Rattle.st_types.specs.declared.fault.TypingFault.TheVariants.{OutOfMemory, UnknownName, TypeMismatch, BadLiteral, NotWritable}
+use Rattle.fb_faults.specs.declared.statement.TypingFault.{TypingFault}
+use Rattle.fb_faults.specs.declared.statement.TypingFault.TheVariants.{OutOfMemory, UnknownName, TypeMismatch, BadLiteral, NotWritable}
 
 -- a fault is the one that is defined, unless memory ran out
 abbrev pub Fails : {Y : Type 0} → TypingFault → Result Y Fault → Type 0

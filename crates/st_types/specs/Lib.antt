@@ -3,4 +3,3 @@ pub mod Views
 pub mod Answers
 pub mod Commanding
 pub mod CommandViews
-pub mod Codes

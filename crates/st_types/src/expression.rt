@@ -10,7 +10,7 @@ ghost use Rattle.st_types.specs.Answers.{Gives};
 ghost use Rattle.st_types.specs.Elaborating as book;
 ghost use Rattle.st_types.specs.Views.{term_of, operand_of, entries, symbol_of};
 
-use crate::fault::TypingFault;
+use fb_faults::TypingFault;
 use crate::operand::{
     Operand, constant, integer, linked, loosely_linked, operands_type, taken, truth,
 };

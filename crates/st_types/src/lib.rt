@@ -5,7 +5,6 @@
 
 mod command;
 mod expression;
-mod fault;
 mod operand;
 mod operation;
 mod scope;
@@ -16,7 +15,6 @@ mod whole;
 
 pub use command::{Counting, TypedArm, TypedBranch, TypedStmt};
 pub use expression::signed;
-pub use fault::TypingFault;
 pub use scope::{Scope, Variable};
 pub use term::{TypedExpr, TypedLink, VariableName};
 pub use types::widens;

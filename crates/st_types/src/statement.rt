@@ -12,7 +12,7 @@ ghost use Rattle.st_types.specs.CommandViews.{busy_of, counting_of, command_of, 
 
 use crate::command::{Counting, TypedArm, TypedBranch, TypedStmt};
 use crate::expression::{asked, condition, known, signed, typed};
-use crate::fault::TypingFault;
+use fb_faults::TypingFault;
 use crate::operand::integer;
 use crate::scope::{Scope, Variable, named};
 use crate::types::is_integer;

@@ -13,7 +13,7 @@ ghost use Rattle.st_types.specs.CommandViews.{commands_of};
 
 use crate::command::TypedStmt;
 use crate::expression::{asked, condition};
-use crate::fault::TypingFault;
+use fb_faults::TypingFault;
 use crate::scope::Scope;
 use crate::statement::commands;
 use crate::term::TypedExpr;

@@ -1,7 +1,7 @@
 use Rattle.std.proofs.Common.{refl, subst}
 use Rattle.fb_model.specs.Spans.{Span}
 use Rattle.fb_ranges_intervals.specs.Views.{span_of}
-use Rattle.fb_check_ranges.specs.Beginning.{Begins}
+use Rattle.fb_model.specs.Misfits.{Begins}
 use Rattle.fb_check_ranges.proofs.Blaming.{denied}
 use Rattle.fb_check_ranges.proofs.begin.variable_begins.Goals as goal
 

@@ -5,7 +5,8 @@ use Rattle.fb_types_blocks.specs.declared.typed.Transition.{Transition}
 use Rattle.fb_types_blocks.specs.Views.{block_of}
 use Rattle.fb_ranges.specs.Views.{spans_of}
 use Rattle.fb_check_ranges.specs.Reasons.{OneFails}
-use Rattle.fb_check_ranges.specs.Clearing.{rows_of_block, procedure_name, procedure_text, guard_in, AlgorithmFails, GuardFails, RunFails}
+use Rattle.fb_check_ranges.specs.Clearing.{rows_of_block, procedure_name, procedure_text, guard_in, AlgorithmFails, RunFails}
+use Rattle.fb_model.specs.Misfits.{GuardFails}
 use Rattle.fb_check_ranges.specs.Examining.{AreClear}
 use Rattle.fb_check_ranges.proofs.Blaming.{blames_weaker}
 use Rattle.fb_check_ranges.proofs.Sharing.{clear_shown, runs_shown}

@@ -2,7 +2,8 @@ use Rattle.std.proofs.Common.{string_bytes}
 use Rattle.std.proofs.lemmas.Result.{err_from_is_err_and}
 use Rattle.fb_types_blocks.specs.declared.typed.Transition.{Transition}
 use Rattle.fb_ranges.specs.Views.{spans_of}
-use Rattle.fb_check_ranges.specs.Clearing.{guard_in, GuardFails}
+use Rattle.fb_check_ranges.specs.Clearing.{guard_in}
+use Rattle.fb_model.specs.Misfits.{GuardFails}
 use Rattle.fb_check_ranges.proofs.Blaming.{one_named}
 use Rattle.fb_check_ranges.proofs.run.guards_clear.Goals as goal
 

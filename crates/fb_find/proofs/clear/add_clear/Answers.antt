@@ -4,7 +4,7 @@ use Rattle.fb_model.specs.Certificates.{all_leaves}
 use Rattle.fb_cert.specs.Views.{Rows, rows_of}
 use Rattle.fb_ranges.specs.Views.{spans_of}
 use Rattle.fb_find_ranges.specs.Found.{spelled}
-use Rattle.fb_find.specs.Bounds.{IsNoBoundAt}
+use Rattle.fb_model.specs.Finding.{IsNoBoundAt}
 use Rattle.fb_find.proofs.Clearing.{apart_texts, has_ranges, known, told, upper_texts}
 use Rattle.fb_find.proofs.clear.add_clear.Goals as goal
 

@@ -1,12 +1,12 @@
 use Rattle.std.proofs.Common.{◌≡◌, map, subst, sym}
 use Rattle.fb_model.specs.Certificates.{all_leaves}
-use Rattle.fb_model_laws.specs.FinderRanges.{AreFound}
+use Rattle.fb_model.specs.FinderRanges.{AreFound}
 use Rattle.fb_cert.specs.Views.{certificate_of}
 use Rattle.fb_check_rows.proofs.Loops.{err_weaker, ok_weaker}
-use Rattle.fb_find_laws.specs.Finding.{IsFound, IsFoundWith}
+use Rattle.fb_model.specs.Finding.{IsFound, IsFoundWith}
 use Rattle.fb_find_ranges.specs.Found.{spelled}
 use Rattle.fb_ranges.specs.Views.{spans_of}
-use Rattle.fb_find.specs.Bounds.{IsNoBound, IsNoBoundAt}
+use Rattle.fb_model.specs.Finding.{IsNoBound, IsNoBoundAt}
 use Rattle.fb_find.proofs.Clearing.{found_told}
 use Rattle.fb_find.proofs.Given.{found_read, have_found}
 use Rattle.fb_find.proofs.Taking.{found_with}

@@ -3,7 +3,8 @@ use Rattle.std.proofs.Common.{◌≡◌, map}
 use Rattle.fb_model.specs.Certificates.{all_leaves}
 use Rattle.fb_cert.specs.Views.{certificate_of}
 use Rattle.fb_check_rows.proofs.Loops.{ok_weaker}
-use Rattle.fb_find_laws.specs.Finding.{IsFoundWith, IsMadeWith}
+use Rattle.fb_find_laws.specs.Finding.{IsMadeWith}
+use Rattle.fb_model.specs.Finding.{IsFoundWith}
 use Rattle.fb_find_laws.proofs.Laws.{made_with}
 use Rattle.fb_find_ranges.specs.Found.{spelled}
 use Rattle.fb_ranges.specs.Views.{spans_of}

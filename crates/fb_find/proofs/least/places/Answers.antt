@@ -1,7 +1,7 @@
 use Rattle.std.proofs.Common.{List, [], refl}
 use Rattle.fb_model.specs.Ranges.{Range}
 use Rattle.fb_model.specs.Certificates.{all_leaves}
-use Rattle.fb_model_laws.specs.Columns.{demands}
+use Rattle.fb_model.specs.Columns.{demands}
 use Rattle.fb_find_demands.specs.Rights.{rights_of}
 use Rattle.fb_find.proofs.Columns.{closed, column_of}
 use Rattle.fb_find.proofs.least.places.Goals as goal

@@ -1,5 +1,5 @@
 use Rattle.fb_model.specs.Certificates.{all_leaves}
-use Rattle.fb_model_laws.specs.Columns.{demands}
+use Rattle.fb_model.specs.Columns.{demands}
 use Rattle.fb_find_demands.specs.Rights.{rights_of}
 use Rattle.fb_find.proofs.Columns.{closed, column_of}
 use Rattle.fb_find.proofs.least.steps.Goals as goal

@@ -1,5 +1,5 @@
 use Rattle.fb_model.specs.Certificates.{all_leaves}
-use Rattle.fb_model_laws.specs.Columns.{network_demands}
+use Rattle.fb_model.specs.Columns.{network_demands}
 use Rattle.fb_find_demands.specs.Rights.{rights_of}
 use Rattle.std.proofs.Common.{Some}
 use Rattle.fb_find.proofs.Columns.{channels_are, closed, network_of}

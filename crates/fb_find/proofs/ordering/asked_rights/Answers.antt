@@ -2,7 +2,7 @@ use Rattle.std.proofs.Common.{◌≡◌, ℕ, Option, refl, sym, subst, IfOk}
 use Rattle.fb_model_laws.proofs.Closed.{all_charts_closed}
 use Rattle.fb_find_demands.specs.Rights.{numbered, rights_of}
 use Rattle.fb_find.specs.Given.{IsNumbered}
-use Rattle.fb_find.specs.Columns.{asked}
+use Rattle.fb_model.specs.Finding.{asked}
 use Rattle.fb_find.proofs.ordering.asked_rights.Goals as goal
 
 pub returns-in-None : goal.returns-in-None

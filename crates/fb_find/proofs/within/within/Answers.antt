@@ -2,10 +2,11 @@ use Rattle.std.proofs.Common.{◌≡◌, ◌∙◌, map}
 use Rattle.fb_model.specs.Certificates.{all_leaves}
 use Rattle.fb_cert.specs.Views.{certificate_of, rows_of}
 use Rattle.fb_check_rows.proofs.Loops.{err_weaker, ok_weaker}
-use Rattle.fb_find_laws.specs.Finding.{AreTaken, IsFoundWith, IsFoundWithin}
+use Rattle.fb_model.specs.Finding.{AreTaken, IsFoundWith, IsFoundWithin}
 use Rattle.fb_find_ranges.specs.Found.{spelled}
 use Rattle.fb_ranges.specs.Views.{spans_of}
-use Rattle.fb_find.specs.Bounds.{IsNoBoundAt, IsNoBoundWithin}
+use Rattle.fb_find.specs.Bounds.{IsNoBoundWithin}
+use Rattle.fb_model.specs.Finding.{IsNoBoundAt}
 use Rattle.fb_find.proofs.Given.{have_own, own_tables}
 use Rattle.fb_find.proofs.Taking.{found_with, taken_rows, taken_told}
 use Rattle.fb_find.proofs.within.within.Goals as goal

@@ -3,7 +3,7 @@ use Rattle.std.proofs.lemmas.List.{append-nil}
 use Rattle.fb_model.specs.Names.{at_place}
 use Rattle.fb_model.specs.CertificateText.{names_in}
 use Rattle.fb_model.specs.Services.{arrive}
-use Rattle.fb_model_laws.specs.Demands.{event}
+use Rattle.fb_model.specs.Demands.{event}
 use Rattle.fb_find_demands.specs.Rights.{numbers_of}
 use Rattle.fb_find_demands.proofs.Ranks.{mapped}
 use Rattle.fb_find_demands.proofs.channel.add_heard.Goals as goal

@@ -1,5 +1,5 @@
 use Rattle.std.proofs.Common.{◌≡◌, [], ◌∷◌, ◌++◌, ap, ◌∙◌, None}
-use Rattle.fb_model_laws.specs.Demands.{free_demand}
+use Rattle.fb_model.specs.Demands.{free_demand}
 use Rattle.fb_find_laws.specs.Nodes.{by_number}
 use Rattle.fb_types_blocks.specs.Views.{block_of, transition_of, name_of}
 use Rattle.fb_find_demands.specs.Grounds.{ground_in, actions_in}

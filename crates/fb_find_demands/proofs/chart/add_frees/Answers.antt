@@ -1,7 +1,7 @@
 use Rattle.std.proofs.Common.{◌+◌, List, map, drop}
 use Rattle.std.specs.List.{flat_map}
 use Rattle.std.proofs.lemmas.List.{map-append}
-use Rattle.fb_model_laws.specs.Demands.{of_free}
+use Rattle.fb_model.specs.Demands.{of_free}
 use Rattle.fb_find_laws.specs.Nodes.{by_number}
 use Rattle.fb_types_blocks.specs.declared.typed.Transition.{Transition}
 use Rattle.fb_types_blocks.specs.Views.{block_of, transition_of}

@@ -2,7 +2,7 @@ use Rattle.std.proofs.Common.{◌≡◌, List, [], ◌∷◌, map, refl, ap}
 use Rattle.std.specs.declared.string.String.{String}
 use Rattle.std.specs.declared.vec.Vec.{Vec}
 use Rattle.std.specs.declared.alloc.Global.{Global}
-use Rattle.fb_model_laws.specs.Demands.{of_state, state}
+use Rattle.fb_model.specs.Demands.{of_state, state}
 use Rattle.fb_find_laws.specs.Nodes.{Numbered, by_number}
 use Rattle.fb_types_blocks.specs.declared.typed.Action.{Action}
 use Rattle.fb_find_demands.specs.Crossed.{state_numbers}

@@ -1,5 +1,5 @@
 use Rattle.std.proofs.Common.{◌≡◌, ◌++◌, map, drop}
-use Rattle.fb_model_laws.specs.Demands.{of_state}
+use Rattle.fb_model.specs.Demands.{of_state}
 use Rattle.fb_types_blocks.specs.Views.{states_of}
 use Rattle.fb_find_demands.specs.Crossed.{state_numbers}
 use Rattle.fb_find_demands.specs.Grounds.{ground_in}

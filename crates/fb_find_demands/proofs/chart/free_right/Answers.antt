@@ -1,5 +1,5 @@
 use Rattle.std.proofs.Common.{ap, ◌∙◌, string_bytes}
-use Rattle.fb_model_laws.specs.Demands.{state, work, emitted, free_demand}
+use Rattle.fb_model.specs.Demands.{state, work, emitted, free_demand}
 use Rattle.fb_find_demands.specs.declared.right.Right.{Right}
 use Rattle.fb_find_demands.specs.Grounds.{actions_in, ground_in}
 use Rattle.fb_find_demands.specs.Rights.{numbers_of}

@@ -1,7 +1,7 @@
 use Rattle.std.proofs.Common.{◌≡◌, [], ◌∷◌, ◌++◌, ap, ◌∙◌, append_assoc}
 use Rattle.std.specs.List.{flat_map}
 use Rattle.fb_model.specs.Certificates.{event_names}
-use Rattle.fb_model_laws.specs.Demands.{event, of_least}
+use Rattle.fb_model.specs.Demands.{event, of_least}
 use Rattle.fb_types_blocks.specs.Views.{events_of}
 use Rattle.fb_find_laws.specs.Nodes.{Numbered, by_number, index_in}
 use Rattle.fb_find_demands.specs.Crossed.{crossed}

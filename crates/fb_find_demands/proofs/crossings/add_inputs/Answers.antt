@@ -5,7 +5,7 @@ use Rattle.std.specs.declared.string.String.{String}
 use Rattle.std.specs.declared.vec.Vec.{Vec}
 use Rattle.std.specs.declared.alloc.Global.{Global}
 use Rattle.fb_model.specs.Certificates.{event_names}
-use Rattle.fb_model_laws.specs.Demands.{of_input}
+use Rattle.fb_model.specs.Demands.{of_input}
 use Rattle.fb_find_laws.specs.Nodes.{by_number}
 use Rattle.fb_types_blocks.specs.declared.typed.Transition.{Transition}
 use Rattle.fb_types_blocks.specs.Views.{block_of, transition_of}

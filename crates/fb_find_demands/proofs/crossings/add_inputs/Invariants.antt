@@ -1,7 +1,7 @@
 use Rattle.std.proofs.Common.{◌≡◌, ◌++◌, map, drop}
 use Rattle.std.specs.List.{flat_map}
 use Rattle.fb_model.specs.Certificates.{event_names}
-use Rattle.fb_model_laws.specs.Demands.{of_input}
+use Rattle.fb_model.specs.Demands.{of_input}
 use Rattle.fb_types_blocks.specs.Views.{block_of, events_of}
 use Rattle.fb_find_demands.specs.Grounds.{ground_in}
 use Rattle.fb_find_demands.specs.Rights.{numbered, rights_of}

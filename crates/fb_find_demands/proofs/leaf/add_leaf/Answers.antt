@@ -1,7 +1,7 @@
 use Rattle.std.proofs.Common.{◌≡◌, ℕ, Bool, List, ◌++◌, Result, OnOk, sym, ap, ◌∙◌, string_bytes}
 use Rattle.fb_model.specs.Names.{Name}
 use Rattle.fb_model.specs.Wires.{Kind, Charted, Serviced}
-use Rattle.fb_model_laws.specs.Demands.{of_kind}
+use Rattle.fb_model.specs.Demands.{of_kind}
 use Rattle.fb_types_blocks.specs.declared.typed.Block.{Block}
 use Rattle.fb_types_blocks.specs.Views.{block_of}
 use Rattle.fb_types_services.specs.Views.{service_of}

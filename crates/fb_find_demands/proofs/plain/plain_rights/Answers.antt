@@ -3,8 +3,8 @@ use Rattle.std.specs.List.{flat_map}
 use Rattle.std.specs.declared.alloc.Global.{Global}
 use Rattle.fb_flat.specs.declared.flat.Leaf.{Leaf}
 use Rattle.fb_model.specs.Certificates.{all_leaves}
-use Rattle.fb_model_laws.specs.Demands.{bare_demands}
-use Rattle.fb_model_laws.specs.Columns.{demands}
+use Rattle.fb_model.specs.Demands.{bare_demands}
+use Rattle.fb_model.specs.Columns.{demands}
 use Rattle.fb_find_demands.specs.declared.right.Right.{Right}
 use Rattle.fb_find_demands.specs.Rights.{numbered, rights_of}
 use Rattle.fb_find_demands.specs.Leaves.{leaves_under, leaf_rights}

@@ -2,7 +2,7 @@ use Rattle.std.proofs.Common.{◌≡◌, false, ap, ◌∙◌, map, Vec, Bor}
 use Rattle.std.specs.declared.alloc.Global.{Global}
 use Rattle.fb_flat.specs.declared.flat.Leaf.{Leaf}
 use Rattle.fb_model.specs.Certificates.{all_leaves}
-use Rattle.fb_model_laws.specs.Columns.{demands}
+use Rattle.fb_model.specs.Columns.{demands}
 use Rattle.fb_ranges.specs.Views.{spans_of}
 use Rattle.fb_find_demands.specs.declared.right.Right.{Right}
 use Rattle.fb_find_demands.specs.Rights.{numbered, rights_of}

@@ -1,5 +1,5 @@
 use Rattle.std.proofs.Common.{◌≡◌, [], ◌∷◌, ◌++◌, map, Some, sym, ap, ◌∙◌, subst, OnOk, string_bytes}
-use Rattle.fb_model_laws.specs.Demands.{emitted}
+use Rattle.fb_model.specs.Demands.{emitted}
 use Rattle.fb_types_blocks.specs.Views.{action_of, name_of}
 use Rattle.fb_find_demands.specs.Grounds.{ground_in}
 use Rattle.fb_find_demands.specs.Rights.{numbers_of}

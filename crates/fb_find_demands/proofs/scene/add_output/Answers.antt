@@ -2,7 +2,7 @@ use Rattle.std.proofs.Common.{◌≡◌, ℕ, [], ◌++◌, map, sym, ap, ◌∙
 use Rattle.std.specs.Str.{bytes_eq}
 use Rattle.std.proofs.lemmas.List.{append-nil}
 use Rattle.fb_model.specs.Names.{Place}
-use Rattle.fb_model_laws.specs.Demands.{event}
+use Rattle.fb_model.specs.Demands.{event}
 use Rattle.fb_flat.specs.Tables.{targets_of, target_place}
 use Rattle.fb_find_demands.specs.Rights.{numbers_of}
 use Rattle.fb_find_demands.proofs.Loops.{rest_of}

@@ -2,7 +2,7 @@ use Rattle.std.proofs.Common.{ℕ, ◌+◌, List, map, drop, Bor}
 use Rattle.std.proofs.lemmas.List.{map-append}
 use Rattle.fb_model.specs.Names.{Name, Place}
 use Rattle.fb_model.specs.Certificates.{reached}
-use Rattle.fb_model_laws.specs.Demands.{event}
+use Rattle.fb_model.specs.Demands.{event}
 use Rattle.fb_flat.specs.Tables.{targets_of}
 use Rattle.fb_find_demands.specs.Rights.{numbers_of}
 use Rattle.fb_find_demands.proofs.Loops.{rest_got, turn}

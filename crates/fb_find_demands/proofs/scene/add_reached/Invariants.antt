@@ -1,6 +1,6 @@
 use Rattle.std.proofs.Common.{◌≡◌, ◌++◌, map, drop}
 use Rattle.fb_model.specs.Certificates.{reached}
-use Rattle.fb_model_laws.specs.Demands.{event}
+use Rattle.fb_model.specs.Demands.{event}
 use Rattle.fb_flat.specs.Tables.{targets_of}
 use Rattle.fb_find_demands.specs.Rights.{numbers_of}
 use Rattle.fb_find_demands.proofs.scene.add_reached.Given as goal

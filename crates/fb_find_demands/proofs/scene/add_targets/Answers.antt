@@ -1,6 +1,6 @@
 use Rattle.std.proofs.Common.{◌≡◌, ℕ, List, [], ◌∷◌, ◌++◌, map, refl, ap, ◌∙◌}
 use Rattle.fb_model.specs.Names.{Place}
-use Rattle.fb_model_laws.specs.Demands.{event}
+use Rattle.fb_model.specs.Demands.{event}
 use Rattle.fb_flat.specs.Tables.{target_place}
 use Rattle.fb_flat.specs.declared.flat.Target.{Target}
 use Rattle.fb_find_demands.specs.Rights.{numbers_of}

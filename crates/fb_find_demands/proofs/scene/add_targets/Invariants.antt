@@ -1,5 +1,5 @@
 use Rattle.std.proofs.Common.{◌≡◌, ◌++◌, map, drop}
-use Rattle.fb_model_laws.specs.Demands.{event}
+use Rattle.fb_model.specs.Demands.{event}
 use Rattle.fb_flat.specs.Tables.{target_place}
 use Rattle.fb_find_demands.specs.Rights.{numbers_of}
 use Rattle.fb_find_demands.proofs.scene.add_targets.Given as goal

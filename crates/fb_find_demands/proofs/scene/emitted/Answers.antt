@@ -1,5 +1,5 @@
 use Rattle.std.proofs.Common.{◌+◌, List, [], ◌∷◌, map, drop}
-use Rattle.fb_model_laws.specs.Demands.{emitted}
+use Rattle.fb_model.specs.Demands.{emitted}
 use Rattle.fb_types_blocks.specs.declared.typed.Action.{Action}
 use Rattle.fb_types_blocks.specs.Views.{action_of}
 use Rattle.fb_find_demands.specs.Grounds.{ground_in}

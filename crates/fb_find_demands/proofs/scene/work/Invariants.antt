@@ -1,5 +1,5 @@
 use Rattle.std.proofs.Common.{◌≡◌, ◌+◌, ◌≤◌, map, drop}
-use Rattle.fb_model_laws.specs.Demands.{work}
+use Rattle.fb_model.specs.Demands.{work}
 use Rattle.fb_types_blocks.specs.Views.{action_of}
 use Rattle.fb_find_laws.specs.Nodes.{capped}
 use Rattle.fb_find_demands.specs.Grounds.{ground_in}

@@ -2,7 +2,7 @@ use Rattle.std.proofs.Common.{◌+◌, List, map, drop, get_or, [], Bor}
 use Rattle.std.specs.List.{flat_map}
 use Rattle.std.proofs.lemmas.List.{map-append}
 use Rattle.fb_model.specs.Names.{Name}
-use Rattle.fb_model_laws.specs.Demands.{of_dispatch}
+use Rattle.fb_model.specs.Demands.{of_dispatch}
 use Rattle.fb_find_laws.specs.Nodes.{by_number}
 use Rattle.fb_types_services.specs.Views.{service_of}
 use Rattle.fb_find_demands.specs.Grounds.{ground_in}

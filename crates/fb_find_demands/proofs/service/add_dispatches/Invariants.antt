@@ -1,6 +1,6 @@
 use Rattle.std.proofs.Common.{◌≡◌, ◌++◌, map, drop}
 use Rattle.std.specs.List.{flat_map}
-use Rattle.fb_model_laws.specs.Demands.{of_dispatch}
+use Rattle.fb_model.specs.Demands.{of_dispatch}
 use Rattle.fb_types_services.specs.Views.{service_of}
 use Rattle.fb_find_demands.specs.Grounds.{ground_in}
 use Rattle.fb_find_demands.specs.Rights.{numbered, rights_of}

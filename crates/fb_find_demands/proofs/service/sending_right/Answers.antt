@@ -2,7 +2,7 @@ use Rattle.std.proofs.Common.{◌≡◌, ◌+◌, ◌++◌, map, sym, ap, ap₂,
 use Rattle.std.proofs.lemmas.List.{map-append}
 use Rattle.fb_model.specs.Services.{can_emit}
 use Rattle.fb_model.specs.Certificates.{reached}
-use Rattle.fb_model_laws.specs.Demands.{event, sent, sending_demand}
+use Rattle.fb_model.specs.Demands.{event, sent, sending_demand}
 use Rattle.fb_find_laws.specs.Nodes.{capped}
 use Rattle.fb_types_services.specs.Views.{service_of}
 use Rattle.fb_find_demands.specs.Grounds.{ground_in}

@@ -1,7 +1,7 @@
 use Rattle.std.proofs.Common.{sym, ap, ◌∙◌}
 use Rattle.fb_model.specs.Spelling.{upper}
 use Rattle.fb_model.specs.CertificateText.{place_of}
-use Rattle.fb_model_laws.specs.Demands.{event, state}
+use Rattle.fb_model.specs.Demands.{event, state}
 use Rattle.fb_find_demands.proofs.Ranks.{if_ok}
 use Rattle.fb_find_demands.specs.Shown.{shown_node, sought}
 use Rattle.fb_find_demands.proofs.walk_numbers.number_of.Goals as goal

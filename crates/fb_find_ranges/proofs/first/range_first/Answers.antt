@@ -7,7 +7,7 @@ use Rattle.fb_model.specs.System.{start_of}
 use Rattle.fb_model.specs.Store.{variable_names, first_input}
 use Rattle.fb_model.specs.BlockTyping.{variable_of}
 use Rattle.fb_model.specs.Wires.{Source}
-use Rattle.fb_model_laws.specs.FinderRanges.{held}
+use Rattle.fb_model.specs.FinderRanges.{held}
 use Rattle.fb_types_blocks.specs.Views.{declared_of, variables_of}
 use Rattle.fb_flat.specs.Tables.{source_at}
 use Rattle.fb_check_ranges.specs.Beginning.{IsRange}

@@ -1,6 +1,7 @@
 use Rattle.std.proofs.lemmas.Result.{err_from_is_err_and}
 use Rattle.fb_cert.specs.Views.{certificate_of, rows_of}
-use Rattle.fb_find_rows.specs.Needs.{all_rows, IsPastAmong}
+use Rattle.fb_find_rows.specs.Needs.{all_rows}
+use Rattle.fb_model.specs.Finding.{IsPastAmong}
 use Rattle.fb_find_rows.proofs.QueueRows.{next_device, past_device}
 use Rattle.fb_find_rows.proofs.adding.add_depths.Goals as goal
 

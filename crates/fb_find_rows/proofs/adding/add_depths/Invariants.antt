@@ -2,7 +2,8 @@ use Rattle.std.proofs.Common.{drop, List, flat_map}
 use Rattle.fb_model.specs.System as book
 use Rattle.fb_cert.specs.Views.{certificate_of, rows_of}
 use Rattle.fb_flat.specs.Tables.{AreDevices}
-use Rattle.fb_find_rows.specs.Needs.{all_rows, AreFresh, IsPastAmong, paths, resource_texts}
+use Rattle.fb_find_rows.specs.Needs.{all_rows, AreFresh, paths, resource_texts}
+use Rattle.fb_model.specs.Finding.{IsPastAmong}
 use Rattle.fb_find_rows.proofs.QueueRows.{IsOver}
 use Rattle.fb_find_rows.proofs.adding.add_depths.Given as goal
 

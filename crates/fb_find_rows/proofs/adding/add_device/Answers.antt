@@ -1,7 +1,8 @@
 use Rattle.std.proofs.Common.{◌∷◌, []}
 use Rattle.std.proofs.lemmas.Result.{err_from_is_err_and}
 use Rattle.fb_cert.specs.Views.{certificate_of, rows_of}
-use Rattle.fb_find_rows.specs.Needs.{device_rows, IsPastIn}
+use Rattle.fb_find_rows.specs.Needs.{device_rows}
+use Rattle.fb_model.specs.Finding.{IsPastIn}
 use Rattle.fb_find_rows.proofs.QueueRows.{next_resource, past_resource}
 use Rattle.fb_find_rows.proofs.adding.add_device.Goals as goal
 

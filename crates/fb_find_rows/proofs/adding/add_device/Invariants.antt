@@ -2,7 +2,8 @@ use Rattle.std.proofs.Common.{drop, ◌∷◌, []}
 use Rattle.fb_model.specs.System as book
 use Rattle.fb_cert.specs.Views.{certificate_of, rows_of}
 use Rattle.fb_flat.specs.Tables.{IsDevice}
-use Rattle.fb_find_rows.specs.Needs.{AreFresh, device_rows, IsPastIn, paths, resource_texts}
+use Rattle.fb_find_rows.specs.Needs.{AreFresh, device_rows, paths, resource_texts}
+use Rattle.fb_model.specs.Finding.{IsPastIn}
 use Rattle.fb_find_rows.proofs.QueueRows.{IsOn}
 use Rattle.fb_find_rows.proofs.adding.add_device.Given as goal
 

@@ -1,7 +1,7 @@
 use Rattle.std.proofs.Common.{string_bytes}
 use Rattle.fb_model.specs.Wires.{resource_leaves}
 use Rattle.fb_cert.specs.Views.{certificate_of}
-use Rattle.fb_find_rows.specs.Needs.{needed_depth}
+use Rattle.fb_model.specs.Finding.{needed_depth}
 use Rattle.fb_find_rows.proofs.QueueRows.{row_read, some_needed}
 use Rattle.fb_find_rows.proofs.adding.add_resource.Goals as goal
 

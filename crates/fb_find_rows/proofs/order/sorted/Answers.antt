@@ -6,9 +6,10 @@ use Rattle.fb_find_graph.specs.Systems.{needed, needs}
 use Rattle.fb_find_graph.specs.Views.{system_of}
 use Rattle.fb_find_graph.proofs.Solving.{needs_in_range}
 use Rattle.std.specs.List.{All}
-use Rattle.fb_model_laws.specs.Demands.{node_in}
+use Rattle.fb_model.specs.Demands.{node_in}
 use Rattle.fb_find_laws.specs.Nodes.{nodes_of}
-use Rattle.fb_find_rows.specs.Places.{texts_of, node_of}
+use Rattle.fb_find_rows.specs.Places.{texts_of}
+use Rattle.fb_model.specs.Finding.{node_of}
 use Rattle.fb_find_rows.proofs.Walks.{all_known}
 use Rattle.fb_find_rows.proofs.order.sorted.Goals as goal
 

@@ -1,5 +1,5 @@
 use Rattle.std.proofs.Common.{ap, ◌∙◌}
-use Rattle.fb_model_laws.specs.Demands.{event}
+use Rattle.fb_model.specs.Demands.{event}
 use Rattle.fb_model.specs.CertificateText.{place_of}
 use Rattle.fb_find_rows.proofs.Keys.{event_key}
 use Rattle.fb_find_rows.proofs.place.event_at.Goals as goal

@@ -1,5 +1,5 @@
 use Rattle.std.proofs.Common.{ap, ◌∙◌}
-use Rattle.fb_model_laws.specs.Demands.{state}
+use Rattle.fb_model.specs.Demands.{state}
 use Rattle.fb_model.specs.CertificateText.{place_of}
 use Rattle.fb_find_rows.proofs.Keys.{state_key}
 use Rattle.fb_find_rows.proofs.place.place_at.Goals as goal

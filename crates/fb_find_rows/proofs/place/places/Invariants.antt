@@ -1,8 +1,9 @@
 use Rattle.std.proofs.Common.{◌≡◌, ◌<◌, ◌+◌, length, map, take}
 use Rattle.std.specs.List.{All}
-use Rattle.fb_model_laws.specs.Demands.{node_in}
+use Rattle.fb_model.specs.Demands.{node_in}
 use Rattle.fb_find_laws.specs.Nodes.{nodes_of}
-use Rattle.fb_find_rows.specs.Places.{node_of, texts_of}
+use Rattle.fb_find_rows.specs.Places.{texts_of}
+use Rattle.fb_model.specs.Finding.{node_of}
 use Rattle.fb_find_rows.proofs.place.places.Given as goal
 
 -- the first numbers have their places

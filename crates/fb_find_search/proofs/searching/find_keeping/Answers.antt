@@ -1,6 +1,6 @@
 use Rattle.fb_cert.specs.Views.{certificate_of, rows_of}
 use Rattle.fb_types.specs.Views.{system_of}
-use Rattle.fb_find_laws.specs.Finding.{AreTaken, IsFoundWithin}
+use Rattle.fb_model.specs.Finding.{AreTaken, IsFoundWithin}
 use Rattle.fb_find.proofs.Taking.{found_with}
 use Rattle.fb_find_search.specs.Searching.{IsFoundSomehow, IsRanged}
 use Rattle.fb_find_search.proofs.Keeping.{first_same, given_stand, none_keeping}

@@ -1,6 +1,6 @@
 use Rattle.fb_cert.specs.Views.{certificate_of}
 use Rattle.fb_types.specs.Views.{system_of}
-use Rattle.fb_model_laws.specs.FinderRanges.{AreFound}
+use Rattle.fb_model.specs.FinderRanges.{AreFound}
 use Rattle.fb_find.proofs.Taking.{found_with}
 use Rattle.fb_find_search.proofs.Still.{unclear_told}
 use Rattle.std.proofs.Common.{inl}

@@ -7,7 +7,7 @@ use Rattle.fb_model.proofs.Lists.{all_both}
 use Rattle.fb_model_laws.specs.Leaves.{AreApart, IsFed}
 use Rattle.fb_model_laws.proofs.Paths.{all_apart}
 use Rattle.fb_model_laws.proofs.Values.{all_fed}
-use Rattle.fb_model_laws.specs.FinderRanges.{IsLast}
+use Rattle.fb_model.specs.FinderRanges.{IsLast}
 use Rattle.fb_model_laws.proofs.Finishing.{rounds_end}
 use Rattle.fb_model_laws.proofs.round.rounds_end.Goals as goal
 

@@ -2,7 +2,7 @@ use Rattle.std.proofs.Common.{◌≡◌, List, refl, ap, ap₂, ◌∙◌}
 use Rattle.fb_model.specs.Names.{Name}
 use Rattle.fb_model.specs.Spans.{joined}
 use Rattle.fb_model.specs.Clear.{Spans, assigned, reset}
-use Rattle.fb_model_laws.specs.Asking.{asking_all, ask, grown, point}
+use Rattle.fb_model.specs.Asking.{asking_all, ask, grown, point}
 use Rattle.st_types.specs.declared.command.TypedStmt.{TypedStmt}
 use Rattle.st_types.specs.CommandViews.{commands_of}
 use Rattle.fb_ranges.specs.Settling.{held}

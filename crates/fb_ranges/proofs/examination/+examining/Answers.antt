@@ -7,7 +7,7 @@ use Rattle.fb_model.specs.Names.{Name, is_in}
 use Rattle.fb_model.specs.TypedText.{Commands, set_part}
 use Rattle.fb_model.specs.Spans.{Span, span, within}
 use Rattle.fb_model.specs.Clear.{Spans, Clear, Leaves, Traps, changed, narrowed, reset, range_of, with_range, are_kept, kept, taken, left_with, most_iterations, looped, assigned, assigned_one, is_idle, examine, examine_one, examine_choices, examine_cases}
-use Rattle.fb_model_laws.specs.Asking.{Asked, point, range_in, asking, asking_all, asked_loop, ask, ask_one, ask_choices, ask_cases}
+use Rattle.fb_model.specs.Asking.{Asked, point, range_in, asking, asking_all, asked_loop, ask, ask_one, ask_choices, ask_cases}
 use Rattle.fb_model_laws.proofs.Ending.{Ends, ends}
 use denote.Param.Weighed.{at_most, most}
 use Rattle.st_types.proofs.command.TypedStmt.TheLaws.{the_size as stmt_size}

@@ -3,7 +3,7 @@ use Rattle.fb_model.specs.Names.{Name}
 use denote.Param.Weighed.{most}
 use Rattle.fb_model.specs.Clear.{assigned, examine, examine_choices, examine_cases}
 use Rattle.st_types.specs.CommandViews.{commands_of, choices_of, cases_of}
-use Rattle.fb_model_laws.specs.Asking.{point, ask, ask_choices, ask_cases}
+use Rattle.fb_model.specs.Asking.{point, ask, ask_choices, ask_cases}
 use Rattle.fb_ranges.specs.declared.told.Told.TheVariants as t
 use Rattle.fb_ranges.specs.Finding.{in_sequence, longer, tell}
 use Rattle.fb_ranges.specs.Meeting.{Dated, met_by, ranges_after}

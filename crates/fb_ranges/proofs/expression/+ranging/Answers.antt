@@ -1,7 +1,7 @@
 use Rattle.std.proofs.Common.{List, map, sym, ap, ap₂, ◌∙◌}
 use Rattle.fb_model.specs.Language.{given}
 use Rattle.fb_model.specs.Clear.{range_of}
-use Rattle.fb_model_laws.specs.Asking.{range_in}
+use Rattle.fb_model.specs.Asking.{range_in}
 use Rattle.st_types.specs.declared.term.TypedLink.{TypedLink}
 use Rattle.st_types.specs.Views.{term_of, tail_of}
 use Rattle.fb_ranges_intervals.specs.Views.{span_of}

@@ -1,6 +1,6 @@
 use Rattle.std.proofs.Common.{refl, string_bytes}
 use Rattle.fb_model.specs.Clear.{are_kept}
-use Rattle.fb_model_laws.specs.Asking.{asking_all}
+use Rattle.fb_model.specs.Asking.{asking_all}
 use Rattle.fb_ranges.specs.Settling.{held}
 use Rattle.fb_ranges.specs.Views.{names_of, spans_of}
 use Rattle.fb_ranges.proofs.Joins.{kept_not, kept_so, next_name}

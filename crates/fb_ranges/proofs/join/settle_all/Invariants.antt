@@ -1,7 +1,7 @@
 use Rattle.std.proofs.Common.{◌≡◌, drop, take}
 use Rattle.std.specs.Prelude.{◌&&◌}
 use Rattle.fb_model.specs.Clear.{are_kept, reset}
-use Rattle.fb_model_laws.specs.Asking.{asking_all}
+use Rattle.fb_model.specs.Asking.{asking_all}
 use Rattle.fb_ranges.specs.Settling.{held}
 use Rattle.fb_ranges.specs.Views.{names_of, spans_of}
 use Rattle.fb_ranges.proofs.join.settle_all.Given as goal

@@ -1,7 +1,7 @@
 use Rattle.std.proofs.Common.{◌≡◌, true, ap, ap₂, sym, ◌∙◌, string_bytes}
 use Rattle.fb_model.specs.Spans.{Span, joined, within}
 use Rattle.fb_model.specs.Clear.{changed}
-use Rattle.fb_model_laws.specs.Asking.{asking}
+use Rattle.fb_model.specs.Asking.{asking}
 use Rattle.fb_ranges.specs.Settling.{held}
 use Rattle.fb_ranges.specs.Views.{spans_of}
 use Rattle.fb_ranges.proofs.Covers.{joined_same, joined_within}

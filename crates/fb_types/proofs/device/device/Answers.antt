@@ -5,10 +5,10 @@ use Rattle.std.proofs.lemmas.Result.{err_from_is_err_and}
 use Rattle.fb_model.specs.Typing.{AreDistinct, AreNewNumbers}
 use Rattle.fb_model.specs.NetworkTyping.{most_resources, AreResources, inputs, outputs, subscribed, device_services}
 use Rattle.fb_tree.specs.Files as trees_of
-use Rattle.fb_types_blocks.specs.Refusals.{IsRepetition, IsExcess}
-use Rattle.fb_types.specs.Ends.{IsNumberFault}
-use Rattle.fb_types.specs.Nesting.{ResourcesProvide}
-use Rattle.fb_types.specs.Refusals.{repeated_resource, excess_resource, faulty_resource, faulty_numbers}
+use Rattle.fb_model.specs.BlockFaults.{IsRepetition, IsExcess}
+use Rattle.fb_model.specs.NumberFaults.{IsNumberFault}
+use Rattle.fb_model.specs.Nesting.{ResourcesProvide}
+use Rattle.fb_model.specs.SourceFaults.{repeated_resource, excess_resource, faulty_resource, faulty_numbers}
 use Rattle.fb_types.specs.Views.{resource_of, resource_offsets, offsets_in, device_uses}
 use Rattle.fb_types.proofs.Systems.{resource_words, resource_names}
 use Rattle.fb_types.proofs.device.device.Goals as goal

@@ -5,8 +5,8 @@ use Rattle.fb_model.specs.NetworkTyping.{AreDevices, no_device}
 use Rattle.fb_tree.specs.Files as trees_of
 use Rattle.fb_types_blocks.proofs.Lists.{mapped_more}
 use Rattle.fb_types.specs.Views.{device_of, system_offsets, all_offsets, device_uses, system_uses}
-use Rattle.fb_types.specs.Nesting.{DevicesProvide, by_no_device}
-use Rattle.fb_types.specs.Refusals.{no_memory_for_device}
+use Rattle.fb_model.specs.Nesting.{DevicesProvide, by_no_device}
+use Rattle.fb_model.specs.SourceFaults.{no_memory_for_device}
 use Rattle.fb_types.proofs.Nested.{among_at}
 use Rattle.fb_types.proofs.Systems.{all_offsets_more, devices_more, devices_provide_more, system_uses_more}
 use Rattle.fb_types.proofs.device.devices.Goals as goal

@@ -3,7 +3,7 @@ use Rattle.fb_model.specs.Declarations as decl
 use Rattle.fb_model.specs.NetworkTyping.{AreDevices}
 use Rattle.fb_tree.specs.Files as trees_of
 use Rattle.fb_types.specs.Made.{IsTable, IsMemo}
-use Rattle.fb_types.specs.Nesting.{DevicesProvide}
+use Rattle.fb_model.specs.Nesting.{DevicesProvide}
 use Rattle.fb_types.specs.Views.{device_of, system_offsets, all_offsets, system_uses}
 use Rattle.fb_types.proofs.device.devices.Given as goal
 

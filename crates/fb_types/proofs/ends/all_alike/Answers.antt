@@ -1,5 +1,5 @@
 use Rattle.std.proofs.lemmas.Result.{err_from_is_err_and}
-use Rattle.fb_types.specs.Ends.{unlike}
+use Rattle.fb_model.specs.NumberFaults.{unlike}
 use Rattle.fb_types.proofs.ends.all_alike.Goals as goal
 
 pub returns-in_err-alike-clause-refused : goal.returns-in_err-alike-clause-refused

@@ -4,7 +4,7 @@ use Rattle.fb_model.specs.NetworkTyping.{all_services, AreAlike}
 use Rattle.fb_types_blocks.proofs.Lists.{on_ok}
 use Rattle.fb_types.specs.Uses.{use_of, service_in}
 use Rattle.fb_types.specs.Views.{device_of, system_uses}
-use Rattle.fb_types.specs.Ends.{IsChannelFault}
+use Rattle.fb_model.specs.NumberFaults.{IsChannelFault}
 use Rattle.fb_types.proofs.Ended.{services_same, senders_same, only_channel_memory}
 use Rattle.fb_types.proofs.ends.channels_alike.Goals as goal
 

@@ -4,7 +4,7 @@ use Rattle.fb_model.specs.NetworkTyping.{device_services}
 use Rattle.fb_types_blocks.proofs.Lists.{on_ok}
 use Rattle.fb_types.specs.Uses.{use_of, service_in}
 use Rattle.fb_types.specs.Views.{resource_of, device_uses}
-use Rattle.fb_types.specs.Ends.{IsNumberFault}
+use Rattle.fb_model.specs.NumberFaults.{IsNumberFault}
 use Rattle.fb_types.proofs.Ended.{inputs_same, outputs_same, channels_same, only_number_memory}
 use Rattle.fb_types.proofs.ends.numbers_differ.Goals as goal
 

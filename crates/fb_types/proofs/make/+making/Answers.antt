@@ -9,8 +9,8 @@ use Rattle.fb_model.specs.Declarations as decl
 use Rattle.fb_tree.specs.Files as trees_of
 use Rattle.fb_types_blocks.specs.Views.{declared_in}
 use Rattle.fb_types_blocks.proofs.Lists.{mapped_more}
-use Rattle.fb_types.specs.Nesting.{IsOf, innermost}
-use Rattle.fb_types.specs.Refusals.{no_memory_for_type, faulty_basic, faulty_interface, no_memory_for_instance, unknown_type, faulty_plain, faulty_service}
+use Rattle.fb_model.specs.Nesting.{IsOf, innermost}
+use Rattle.fb_model.specs.SourceFaults.{no_memory_for_type, faulty_basic, faulty_interface, no_memory_for_instance, unknown_type, faulty_plain, faulty_service}
 use Rattle.fb_types.specs.Made.{tree_of, IsTyped, AreParts, HaltsAt, LeadsTo, IsUnmade}
 use Rattle.fb_types.proofs.Nested.{among_at}
 use Rattle.fb_types.proofs.Making.{deeper_again, typed_again, typed_body, done_now, leads_more, halted, named_self, on_path, typed_part, served_part, halted_type, parts_begun, parts_more}

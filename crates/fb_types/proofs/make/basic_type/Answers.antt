@@ -3,7 +3,7 @@ use Rattle.fb_model.specs.System as book
 use Rattle.fb_model.specs.NetworkTyping.{IsMade, a_basic}
 use Rattle.fb_tree.specs.Files as trees_of
 use Rattle.fb_types_blocks.specs.Views.{block_of}
-use Rattle.fb_types.specs.Nesting.{by_basic}
+use Rattle.fb_model.specs.Nesting.{by_basic}
 use Rattle.fb_types.proofs.make.basic_type.Goals as goal
 
 pub returns-clause-made : goal.returns-clause-made

@@ -2,7 +2,7 @@ use Rattle.std.proofs.Common.{refl, ap, map}
 use Rattle.std.proofs.lemmas.Result.{err_from_is_err_and}
 use Rattle.fb_tree.specs.Files as trees_of
 use Rattle.fb_types_networks.specs.Views.{placed_of}
-use Rattle.fb_types.specs.Refusals.{no_memory_for_type, faulty_network}
+use Rattle.fb_model.specs.SourceFaults.{no_memory_for_type, faulty_network}
 use Rattle.fb_types.proofs.Making.{named_parts, composite_typed}
 use Rattle.fb_types.proofs.make.composite.Goals as goal
 

@@ -1,5 +1,5 @@
 use Rattle.std.proofs.Common.{sym, ◌∙◌}
-use Rattle.fb_types.specs.Numbers.{number_taken}
+use Rattle.fb_model.specs.NumberFaults.{number_taken}
 use Rattle.fb_types.proofs.Numbered.{taken_already}
 use Rattle.fb_types.proofs.numbers.enter.Goals as goal
 

@@ -2,7 +2,7 @@ use Rattle.std.proofs.Common.{map, subst}
 use Rattle.std.specs.Prelude.{IfErr, IfOk}
 use Rattle.fb_tree.specs.Files as trees_of
 use Rattle.fb_types_networks.specs.Answers.{IsWired}
-use Rattle.fb_types_networks.specs.Refusals.{IsNetworkFault}
+use Rattle.fb_model.specs.NetworkFaults.{IsNetworkFault}
 use Rattle.fb_types_networks.specs.Views.{placed_of, wired_of}
 use Rattle.fb_types.proofs.resource.network.Goals as goal
 

@@ -2,7 +2,7 @@ use Rattle.std.proofs.Common.{inl, inr, [], sym, subst}
 use Rattle.fb_model.specs.NetworkTyping.{most_deep}
 use Rattle.fb_tree.specs.Files as trees_of
 use Rattle.fb_types_blocks.proofs.Refused.{either_of}
-use Rattle.fb_types.specs.Refusals.{faulty_type}
+use Rattle.fb_model.specs.SourceFaults.{faulty_type}
 use Rattle.fb_types.specs.Made.{IsNamed, IsDeeper, IsUnmade, IsHalted, IsRefusedType}
 use Rattle.fb_types.proofs.Making.{named_self}
 use Rattle.fb_types.proofs.resource.refusal.Goals as goal

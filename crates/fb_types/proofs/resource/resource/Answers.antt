@@ -5,7 +5,7 @@ use Rattle.fb_model.specs.Typing.{most_instances}
 use Rattle.fb_model.specs.NetworkTyping.{no_face}
 use Rattle.fb_tree.specs.Files as trees_of
 use Rattle.fb_types_blocks.proofs.Refused.{either_of}
-use Rattle.fb_types.specs.Refusals.{IsCrowd, faulty_instance, too_deep_inside, too_many, faulty_wires}
+use Rattle.fb_model.specs.SourceFaults.{IsCrowd, faulty_instance, too_deep_inside, too_many, faulty_wires}
 use Rattle.fb_types.specs.Made.{AreMade}
 use Rattle.fb_types.proofs.Systems.{resource_typed, named_resource, resource_provides}
 use Rattle.fb_types.proofs.resource.resource.Goals as goal

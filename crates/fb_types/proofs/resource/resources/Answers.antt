@@ -5,8 +5,8 @@ use Rattle.fb_model.specs.NetworkTyping.{AreResources, no_resource}
 use Rattle.fb_tree.specs.Files as trees_of
 use Rattle.fb_types_blocks.proofs.Lists.{mapped_more}
 use Rattle.fb_types.specs.Views.{resource_of, resource_offsets, offsets_in, resource_uses, device_uses}
-use Rattle.fb_types.specs.Nesting.{ResourcesProvide, by_no_resource}
-use Rattle.fb_types.specs.Refusals.{no_memory_for_resource}
+use Rattle.fb_model.specs.Nesting.{ResourcesProvide, by_no_resource}
+use Rattle.fb_model.specs.SourceFaults.{no_memory_for_resource}
 use Rattle.fb_types.proofs.Nested.{among_at}
 use Rattle.fb_types.proofs.Systems.{offsets_more, resources_more, resources_provide_more, device_uses_more}
 use Rattle.fb_types.proofs.resource.resources.Goals as goal

@@ -3,7 +3,7 @@ use Rattle.fb_model.specs.Declarations as decl
 use Rattle.fb_model.specs.NetworkTyping.{AreResources}
 use Rattle.fb_tree.specs.Files as trees_of
 use Rattle.fb_types.specs.Made.{IsTable, IsMemo}
-use Rattle.fb_types.specs.Nesting.{ResourcesProvide}
+use Rattle.fb_model.specs.Nesting.{ResourcesProvide}
 use Rattle.fb_types.specs.Views.{resource_of, resource_offsets, offsets_in, device_uses}
 use Rattle.fb_types.proofs.resource.resources.Given as goal
 

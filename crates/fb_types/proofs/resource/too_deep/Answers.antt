@@ -1,6 +1,6 @@
 use Rattle.std.proofs.Common.{inl, inr, refl, subst}
 use Rattle.fb_tree.specs.Files as trees_of
-use Rattle.fb_types.specs.Refusals.{no_memory_for_type}
+use Rattle.fb_model.specs.SourceFaults.{no_memory_for_type}
 use Rattle.fb_types.specs.Rings.{IsSearched}
 use Rattle.fb_types.proofs.Ringed.{ring_fault}
 use Rattle.fb_types.proofs.Systems.{limit_of_type}

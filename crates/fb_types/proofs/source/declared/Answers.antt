@@ -1,7 +1,7 @@
 use Rattle.std.proofs.Common.{◌≡◌, true, refl, sym, subst, ◌∙◌}
 use Rattle.fb_model.specs.Names.{is_in}
 use Rattle.fb_model.specs.Typing.{service_names}
-use Rattle.fb_types.specs.Refusals.{named_as_service}
+use Rattle.fb_model.specs.SourceFaults.{named_as_service}
 use Rattle.fb_types.proofs.source.declared.Goals as goal
 
 pub returns-then-is_service-clause-refused : goal.returns-then-is_service-clause-refused

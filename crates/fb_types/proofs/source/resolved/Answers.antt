@@ -2,8 +2,8 @@ use Rattle.std.proofs.Common.{◌++◌, [], map, subst}
 use Rattle.std.proofs.lemmas.Result.{err_from_is_err_and}
 use Rattle.fb_model.specs.Typing.{AreDistinct}
 use Rattle.fb_tree.specs.Files as trees_of
-use Rattle.fb_types_blocks.specs.Refusals.{IsRepetition}
-use Rattle.fb_types.specs.Refusals.{repeated_type}
+use Rattle.fb_model.specs.BlockFaults.{IsRepetition}
+use Rattle.fb_model.specs.SourceFaults.{repeated_type}
 use Rattle.fb_types.specs.Made.{IsTable}
 use Rattle.fb_types.proofs.Systems.{block_words, block_names, nothing_made}
 use Rattle.fb_types.proofs.source.resolved.Goals as goal

@@ -5,10 +5,10 @@ use Rattle.std.proofs.lemmas.Result.{err_from_is_err_and}
 use Rattle.fb_model.specs.Typing.{AreDistinct, AreNewNumbers}
 use Rattle.fb_model.specs.NetworkTyping.{most_devices, IsProper, AreDevices, AreAlike, senders, all_services}
 use Rattle.fb_tree.specs.Files as trees_of
-use Rattle.fb_types_blocks.specs.Refusals.{IsRepetition, IsExcess}
-use Rattle.fb_types.specs.Ends.{IsChannelFault}
-use Rattle.fb_types.specs.Nesting.{DevicesProvide}
-use Rattle.fb_types.specs.Refusals.{IsFirstFault, faulty_declaration, repeated_device, excess_device, faulty_device, faulty_channels}
+use Rattle.fb_model.specs.BlockFaults.{IsRepetition, IsExcess}
+use Rattle.fb_model.specs.NumberFaults.{IsChannelFault}
+use Rattle.fb_model.specs.Nesting.{DevicesProvide}
+use Rattle.fb_model.specs.SourceFaults.{IsFirstFault, faulty_declaration, repeated_device, excess_device, faulty_device, faulty_channels}
 use Rattle.fb_types.specs.Made.{IsNamed}
 use Rattle.fb_types.specs.Views.{device_of, system_offsets, all_offsets, system_uses}
 use Rattle.fb_types.proofs.Systems.{device_words, device_names}

@@ -2,7 +2,7 @@ use Rattle.std.proofs.Common.{[], sym, subst}
 use Rattle.std.proofs.lemmas.Result.{err_from_is_err_and}
 use Rattle.fb_model.specs.Typing.{AreDistinct}
 use Rattle.fb_tree.specs.Files as tree
-use Rattle.fb_types_blocks.specs.Refusals.{IsRepetition, repeated_state, repeated_algorithm}
+use Rattle.fb_model.specs.BlockFaults.{IsRepetition, repeated_state, repeated_algorithm}
 use Rattle.fb_types_blocks.proofs.Lists.{map_map}
 use Rattle.fb_types_blocks.proofs.block.apart.Goals as goal
 

@@ -1,6 +1,6 @@
 use Rattle.std.proofs.Common.{inl}
 use Rattle.std.proofs.lemmas.Result.{err_from_is_err_and}
-use Rattle.fb_types_blocks.specs.Refusals.{in_algorithms}
+use Rattle.fb_model.specs.BlockFaults.{in_algorithms}
 use Rattle.fb_types_blocks.proofs.block.chart_within.Goals as goal
 
 pub returns-in_err-scope-clause-refused : goal.returns-in_err-scope-clause-refused

@@ -4,7 +4,7 @@ use Rattle.fb_model.specs.BlockTyping.{AreDeclared, words_in}
 use Rattle.fb_model.specs.Typing.{AreDistinct, texts}
 use Rattle.fb_tree.specs.Files as tree
 use Rattle.fb_types_blocks.specs.Views.{declared_in}
-use Rattle.fb_types_blocks.specs.Refusals.{Among, IsVariableFault, no_memory_for_block, faulty_face, faulty_internal}
+use Rattle.fb_model.specs.BlockFaults.{Among, IsVariableFault, no_memory_for_block, faulty_face, faulty_internal}
 use Rattle.fb_types_blocks.proofs.Refused.{either_of}
 use Rattle.fb_types_blocks.proofs.Blocks.{two_parts}
 use Rattle.fb_types_blocks.proofs.block.declared.Goals as goal

@@ -1,7 +1,7 @@
 use Rattle.std.proofs.Common.{sym, subst}
 use Rattle.std.proofs.lemmas.Result.{err_from_is_err_and, IfErr-weaker}
 use Rattle.fb_tree.specs.Files as tree
-use Rattle.fb_types_blocks.specs.Refusals.{IsExcess, excess_state, excess_transition, excess_algorithm}
+use Rattle.fb_model.specs.BlockFaults.{IsExcess, excess_state, excess_transition, excess_algorithm}
 use Rattle.fb_types_blocks.proofs.Lists.{map_map}
 use Rattle.fb_types_blocks.proofs.block.limits.Goals as goal
 

@@ -3,9 +3,9 @@ use Rattle.std.proofs.lemmas.Result.{IfErr-weaker}
 use Rattle.fb_model.specs.BlockTyping.{words_in}
 use Rattle.fb_model.specs.Typing.{texts}
 use Rattle.fb_tree.specs.Files as tree
-use Rattle.fb_types_blocks.specs.Answers.{own_words}
+use Rattle.fb_model.specs.BlockFaults.{own_words}
 use Rattle.fb_types_blocks.specs.Views.{names_of}
-use Rattle.fb_types_blocks.specs.Refusals.{repeated_variable}
+use Rattle.fb_model.specs.BlockFaults.{repeated_variable}
 use Rattle.fb_types_blocks.proofs.Lists.{on_ok}
 use Rattle.fb_types_blocks.proofs.Repeated.{both_new, second_again}
 use Rattle.fb_types_blocks.proofs.block.names_apart.Goals as goal

@@ -2,7 +2,7 @@ use Rattle.std.proofs.Common.{inr}
 use Rattle.std.proofs.lemmas.Result.{err_from_is_err_and}
 use Rattle.fb_tree.specs.Files as tree
 use Rattle.fb_types_blocks.specs.Answers.{names_in_map}
-use Rattle.fb_types_blocks.specs.Refusals.{IsActionFault}
+use Rattle.fb_model.specs.BlockFaults.{IsActionFault}
 use Rattle.fb_types_blocks.proofs.Refused.{any_at}
 use Rattle.fb_types_blocks.proofs.chart.actions.Goals as goal
 

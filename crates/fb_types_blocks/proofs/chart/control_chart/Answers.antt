@@ -5,7 +5,7 @@ use Rattle.fb_model.specs.Typing.{typed_state}
 use Rattle.fb_tree.specs.Files as tree
 use Rattle.st_types.specs.Views.{entries}
 use Rattle.fb_types_blocks.specs.Answers.{names_in_map}
-use Rattle.fb_types_blocks.specs.Refusals.{Among, IsStateFault, IsTransitionFault, IsAlgorithmFault, in_actions, in_transitions, in_algorithms}
+use Rattle.fb_model.specs.BlockFaults.{Among, IsStateFault, IsTransitionFault, IsAlgorithmFault, in_actions, in_transitions, in_algorithms}
 use Rattle.fb_types_blocks.specs.Views.{states_of, transition_of, procedures_of}
 use Rattle.fb_types_blocks.proofs.Blocks.{AreActions, a_chart, procedure_table_names, state_table_names}
 use Rattle.fb_types_blocks.proofs.chart.control_chart.Goals as goal

@@ -9,9 +9,9 @@ use Rattle.fb_tree.specs.Files as tree
 use Rattle.st_types.specs.declared.whole.Algo.{Algo}
 use Rattle.st_types.specs.Views.{entries}
 use Rattle.st_types.specs.CommandViews.{commands_of}
-use Rattle.fb_types_blocks.specs.Faults.{fault_of}
+use Rattle.fb_faults.specs.Typings.{fault_of}
 use Rattle.fb_types_blocks.specs.Answers.{names_in_map}
-use Rattle.fb_types_blocks.specs.Refusals.{IsTextFault, IsAlgorithmFault}
+use Rattle.fb_model.specs.BlockFaults.{IsTextFault, IsAlgorithmFault}
 use Rattle.fb_types_blocks.specs.Views.{procedures_of}
 use Rattle.fb_types_blocks.proofs.Lists.{new_step}
 use Rattle.fb_types_blocks.proofs.Tables.{seen}

@@ -6,7 +6,7 @@ use Rattle.fb_model.specs.BlockTyping.{IsActionTyped}
 use Rattle.fb_model.specs.Typing.{AreNew, typed_state, state_texts}
 use Rattle.fb_tree.specs.Files as tree
 use Rattle.fb_types_blocks.specs.Answers.{names_in_map}
-use Rattle.fb_types_blocks.specs.Refusals.{IsStateFault}
+use Rattle.fb_model.specs.BlockFaults.{IsStateFault}
 use Rattle.fb_types_blocks.specs.Views.{action_of, states_of}
 use Rattle.fb_types_blocks.proofs.Lists.{new_step}
 use Rattle.fb_types_blocks.proofs.Tables.{seen}

@@ -2,7 +2,7 @@ use Rattle.std.proofs.Common.{inr}
 use Rattle.std.proofs.lemmas.Result.{err_from_is_err_and}
 use Rattle.fb_tree.specs.Words.{word_of}
 use Rattle.fb_types_blocks.specs.Answers.{names_in_map}
-use Rattle.fb_types_blocks.specs.Refusals.{IsUnknown}
+use Rattle.fb_model.specs.BlockFaults.{IsUnknown}
 use Rattle.fb_types_blocks.proofs.Refused.{any_at}
 use Rattle.fb_types_blocks.proofs.event.carried.Goals as goal
 

@@ -5,7 +5,7 @@ use Rattle.fb_model.specs.BlockTyping.{AreKnown, typed_event, event_texts}
 use Rattle.fb_model.specs.Typing.{AreNew}
 use Rattle.fb_tree.specs.Files as tree
 use Rattle.fb_types_blocks.specs.Answers.{names_in_map}
-use Rattle.fb_types_blocks.specs.Refusals.{IsEventFault}
+use Rattle.fb_model.specs.BlockFaults.{IsEventFault}
 use Rattle.fb_types_blocks.specs.Views.{event_of, events_of}
 use Rattle.fb_types_blocks.proofs.Lists.{new_step}
 use Rattle.fb_types_blocks.proofs.Tables.{seen}

@@ -1,6 +1,6 @@
 use Rattle.fb_model.specs.BlockTyping.{words_in}
 use Rattle.fb_tree.specs.Files as tree
-use Rattle.fb_types_blocks.specs.Answers.{event_words}
+use Rattle.fb_model.specs.BlockFaults.{event_words}
 use Rattle.fb_types_blocks.proofs.Interfaces.{four_parts}
 use Rattle.fb_types_blocks.proofs.interface.data_ports.Goals as goal
 

@@ -1,9 +1,9 @@
 use Rattle.std.proofs.Common.{map, string_bytes, subst}
 use Rattle.std.proofs.lemmas.Result.{err_from_is_err_and, IfErr-weaker}
 use Rattle.fb_tree.specs.Files as tree
-use Rattle.fb_types_blocks.specs.Answers.{event_words}
+use Rattle.fb_model.specs.BlockFaults.{event_words}
 use Rattle.fb_types_blocks.specs.Views.{names_of}
-use Rattle.fb_types_blocks.specs.Refusals.{IsRepetition}
+use Rattle.fb_model.specs.BlockFaults.{IsRepetition}
 use Rattle.fb_types_blocks.proofs.Lists.{on_ok}
 use Rattle.fb_types_blocks.proofs.Repeated.{in_front, both_new, both_added, second_again}
 use Rattle.fb_types_blocks.proofs.Interfaces.{event_words_are, event_names_are}

@@ -2,8 +2,8 @@ use Rattle.std.proofs.Common.{subst}
 use Rattle.std.proofs.lemmas.Result.{err_from_is_err_and}
 use Rattle.fb_model.specs.BlockTyping.{words_in}
 use Rattle.fb_tree.specs.Files as tree
-use Rattle.fb_types_blocks.specs.Answers.{event_words}
-use Rattle.fb_types_blocks.specs.Refusals.{Among, IsEventFault, no_memory_for_face, with_no_input, with_no_output}
+use Rattle.fb_model.specs.BlockFaults.{event_words}
+use Rattle.fb_model.specs.BlockFaults.{Among, IsEventFault, no_memory_for_face, with_no_input, with_no_output}
 use Rattle.fb_types_blocks.proofs.Refused.{either_of}
 use Rattle.fb_types_blocks.proofs.Interfaces.{four_parts, events_apart, table_names}
 use Rattle.fb_types_blocks.proofs.interface.event_ports.Goals as goal

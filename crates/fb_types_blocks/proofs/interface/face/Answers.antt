@@ -3,7 +3,7 @@ use Rattle.std.proofs.lemmas.Result.{err_from_is_err_and, IfOk-weaker}
 use Rattle.fb_model.specs.Typing.{AreDistinct}
 use Rattle.fb_tree.specs.Files as tree
 use Rattle.fb_types_blocks.specs.Views.{declared_in, face_of}
-use Rattle.fb_types_blocks.specs.Refusals.{repeated_name}
+use Rattle.fb_model.specs.BlockFaults.{repeated_name}
 use Rattle.fb_types_blocks.proofs.Faultless.{own_names_are, no_face_fault}
 use Rattle.fb_types_blocks.proofs.Interfaces.{out_of_memory, face_only}
 use Rattle.fb_types_blocks.proofs.interface.face.Goals as goal

@@ -1,6 +1,6 @@
 use Rattle.std.proofs.Common.{subst}
 use Rattle.std.proofs.lemmas.Result.{err_from_is_err_and}
-use Rattle.fb_types_blocks.specs.Refusals.{IsExcess, excess_event_input, excess_event_output}
+use Rattle.fb_model.specs.BlockFaults.{IsExcess, excess_event_input, excess_event_output}
 use Rattle.fb_types_blocks.proofs.Interfaces.{event_words_are}
 use Rattle.fb_types_blocks.proofs.interface.limits.Goals as goal
 

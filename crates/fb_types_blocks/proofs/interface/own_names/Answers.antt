@@ -3,9 +3,9 @@ use Rattle.std.proofs.lemmas.Result.{err_from_is_err_and}
 use Rattle.fb_model.specs.BlockTyping.{words_in}
 use Rattle.fb_model.specs.Typing.{AreNew, texts}
 use Rattle.fb_tree.specs.Files as tree
-use Rattle.fb_types_blocks.specs.Answers.{event_words}
+use Rattle.fb_model.specs.BlockFaults.{event_words}
 use Rattle.fb_types_blocks.specs.Views.{names_of}
-use Rattle.fb_types_blocks.specs.Refusals.{IsRepetition}
+use Rattle.fb_model.specs.BlockFaults.{IsRepetition}
 use Rattle.fb_types_blocks.proofs.Repeated.{in_front, both_new, second_again}
 use Rattle.fb_types_blocks.proofs.interface.own_names.Goals as goal
 

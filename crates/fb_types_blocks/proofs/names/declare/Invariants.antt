@@ -1,7 +1,7 @@
 use Rattle.std.proofs.Common.{◌≡◌, ◌++◌, map, drop}
 use Rattle.fb_model.specs.Typing.{AreNew}
 use Rattle.fb_types_blocks.specs.Views.{names_of}
-use Rattle.fb_types_blocks.specs.Refusals.{repeated}
+use Rattle.fb_model.specs.BlockFaults.{repeated}
 use Rattle.fb_types_blocks.proofs.names.declare.Given as goal
 
 -- the names so far are new where those that are left are

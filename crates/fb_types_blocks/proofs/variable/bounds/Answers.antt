@@ -3,7 +3,7 @@ use Rattle.std.proofs.Math.Facts.{to_z-of_z}
 use Rattle.std.proofs.lemmas.Result.{err_from_is_err_and}
 use Rattle.fb_model.specs.BlockTyping.{some_bounds}
 use Rattle.fb_tree.specs.Files as tree
-use Rattle.fb_types_blocks.specs.Refusals.{low_no_number, high_no_number, low_above_high, excess_element}
+use Rattle.fb_model.specs.BlockFaults.{low_no_number, high_no_number, low_above_high, excess_element}
 use Rattle.fb_types_blocks.proofs.Numbers.{bound_found, bound_refused}
 use Rattle.fb_types_blocks.proofs.variable.bounds.Goals as goal
 

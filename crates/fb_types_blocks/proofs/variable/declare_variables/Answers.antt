@@ -5,7 +5,7 @@ use Rattle.fb_model.specs.BlockTyping.{words_in}
 use Rattle.fb_model.specs.Typing.{AreNew, texts}
 use Rattle.fb_tree.specs.Files as tree
 use Rattle.fb_types_blocks.specs.Views.{names_of}
-use Rattle.fb_types_blocks.specs.Refusals.{repeated}
+use Rattle.fb_model.specs.BlockFaults.{repeated}
 use Rattle.fb_types_blocks.proofs.Repeated.{declared_step, declared_again}
 use Rattle.fb_types_blocks.proofs.Variables.{words_left, names_are}
 use Rattle.fb_types_blocks.proofs.variable.declare_variables.Goals as goal

@@ -3,7 +3,7 @@ use Rattle.std.proofs.lemmas.Result.{IfErr-weaker, IfOk-weaker}
 use Rattle.fb_tree.specs.Files as trees_of
 use Rattle.fb_types_events.proofs.EventTrees.{event_trees}
 use Rattle.fb_types_events.proofs.Declared.{trees_declare}
-use Rattle.fb_types.specs.Refusals.{no_memory_for_source}
+use Rattle.fb_model.specs.SourceFaults.{no_memory_for_source}
 use Rattle.fb_types.proofs.Beforehand.{elaborated_with}
 use Rattle.fb_types_events.proofs.resolving.resolve_tree.Goals as goal
 

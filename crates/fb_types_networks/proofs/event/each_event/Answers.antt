@@ -5,7 +5,7 @@ use Rattle.fb_types_blocks.specs.Views.{face_of}
 use Rattle.fb_tree.specs.Files as trees_of
 use Rattle.fb_types_networks.specs.Views.{connection_of}
 use Rattle.fb_types_networks.specs.Ends.{inner_of}
-use Rattle.fb_types_networks.specs.Refusals.{IsEventFault}
+use Rattle.fb_model.specs.NetworkFaults.{IsEventFault}
 use Rattle.fb_types_networks.proofs.Loops.{EventsSo, events_more, events_done, next_left, none_left, any_at}
 use Rattle.fb_types_networks.proofs.event.each_event.Goals as goal
 

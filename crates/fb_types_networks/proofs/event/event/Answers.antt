@@ -4,7 +4,7 @@ use Rattle.fb_tree.specs.Files as trees_of
 use Rattle.fb_types_blocks.specs.Views.{face_of}
 use Rattle.fb_types_networks.specs.Views.{end_of}
 use Rattle.fb_types_networks.specs.Ends.{inner_of}
-use Rattle.fb_types_networks.specs.Refusals.{faulty_source, faulty_target, passing}
+use Rattle.fb_model.specs.NetworkFaults.{faulty_source, faulty_target, passing}
 use Rattle.fb_types_networks.proofs.Connections.{event_source, event_target}
 use Rattle.fb_types_networks.proofs.event.event.Goals as goal
 

@@ -4,7 +4,7 @@ use Rattle.fb_tree.specs.Files as trees_of
 use Rattle.fb_types_blocks.proofs.Refused.{either_of}
 use Rattle.fb_model.specs.Wires.{inputs_of}
 use Rattle.fb_types_networks.specs.Views.{body_of}
-use Rattle.fb_types_networks.specs.Refusals.{IsParametersFault, no_memory_for_plain, faulty_parameters}
+use Rattle.fb_model.specs.NetworkFaults.{IsParametersFault, no_memory_for_plain, faulty_parameters}
 use Rattle.fb_types_networks.proofs.Parameters.{lacking_none}
 use Rattle.fb_types_networks.proofs.Networks.{plain_of}
 use Rattle.fb_types_networks.proofs.instance.declared.Goals as goal

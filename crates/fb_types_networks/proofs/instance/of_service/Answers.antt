@@ -1,7 +1,7 @@
 use Rattle.std.proofs.lemmas.Result.{err_from_is_err_and}
 use Rattle.fb_types_blocks.proofs.Refused.{either_of}
 use Rattle.fb_types_services.specs.Views.{service_of}
-use Rattle.fb_types_networks.specs.Refusals.{no_memory_for_served, faulty_values}
+use Rattle.fb_model.specs.NetworkFaults.{no_memory_for_served, faulty_values}
 use Rattle.fb_types_networks.proofs.instance.of_service.Goals as goal
 
 pub returns-in_err-with_service-in-Some-clause-refused : goal.returns-in_err-with_service-in-Some-clause-refused

@@ -3,9 +3,9 @@ use Rattle.std.proofs.Math.Facts.{to_z-of_z}
 use Rattle.std.proofs.lemmas.Result.{err_from_is_err_and}
 use Rattle.fb_tree.specs.Algorithms.{constant_of}
 use Rattle.fb_model.specs.NetworkTyping.{variable_named}
-use Rattle.fb_types_blocks.specs.Refusals.{IsMisgiven}
+use Rattle.fb_model.specs.BlockFaults.{IsMisgiven}
 use Rattle.fb_types_networks.specs.Answers.{inputs_in}
-use Rattle.fb_types_networks.specs.Refusals.{misgiven}
+use Rattle.fb_model.specs.NetworkFaults.{misgiven}
 use Rattle.fb_tree.specs.Files as trees_of
 use Rattle.fb_types_networks.specs.Views.{names_of}
 use Rattle.fb_types_networks.proofs.Taken.{newly}

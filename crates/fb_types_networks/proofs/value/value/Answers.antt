@@ -4,7 +4,7 @@ use Rattle.fb_tree.specs.Files as trees_of
 use Rattle.fb_types_blocks.specs.Views.{face_of}
 use Rattle.fb_types_networks.specs.Views.{end_of, connection_of}
 use Rattle.fb_types_networks.specs.Ends.{inner_of}
-use Rattle.fb_types_networks.specs.Refusals.{faulty_origin, faulty_goal, passing_value, other_type, second_source}
+use Rattle.fb_model.specs.NetworkFaults.{faulty_origin, faulty_goal, passing_value, other_type, second_source}
 use Rattle.fb_types_networks.proofs.Connections.{value_typed, unlike}
 use Rattle.fb_types_networks.proofs.Taken.{taken_already, newly}
 use Rattle.fb_types_networks.proofs.value.value.Goals as goal

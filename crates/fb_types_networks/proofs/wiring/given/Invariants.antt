@@ -1,7 +1,8 @@
 use Rattle.std.proofs.Common.{◌≡◌, ◌||◌, map, drop}
 use Rattle.fb_model.specs.System.{End}
 use Rattle.fb_model.specs.NetworkTyping.{is_taken, given_in}
-use Rattle.fb_types_networks.specs.Views.{placed_of, placed_in}
+use Rattle.fb_types_networks.specs.Views.{placed_of}
+use Rattle.fb_model.specs.NetworkFaults.{placed_in}
 use Rattle.fb_types_networks.specs.Ends.{ends_of}
 use Rattle.fb_types_networks.proofs.wiring.given.Given as goal
 

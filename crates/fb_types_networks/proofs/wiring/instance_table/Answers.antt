@@ -5,7 +5,7 @@ use Rattle.fb_tree.specs.Words.{word_of}
 use Rattle.fb_types_blocks.specs.Views.{face_of}
 use Rattle.fb_types_blocks.proofs.Lists.{map_map}
 use Rattle.fb_types_networks.specs.Views.{names_of}
-use Rattle.fb_types_networks.specs.Answers.{own_names}
+use Rattle.fb_model.specs.NetworkFaults.{own_names}
 use Rattle.fb_types_networks.proofs.Loops.{next_left, none_left}
 use Rattle.fb_types_networks.proofs.Taken.{taken_already, newly}
 use Rattle.fb_types_networks.proofs.Naming.{NamesSo, names_more, own_again, name_again, names_done}

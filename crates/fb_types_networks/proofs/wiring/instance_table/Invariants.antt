@@ -2,7 +2,7 @@ use Rattle.std.proofs.Common.{map, drop}
 use Rattle.fb_tree.specs.Files as trees_of
 use Rattle.fb_types_blocks.specs.Views.{face_of}
 use Rattle.fb_types_networks.specs.Views.{names_of}
-use Rattle.fb_types_networks.specs.Answers.{own_names}
+use Rattle.fb_model.specs.NetworkFaults.{own_names}
 use Rattle.fb_types_networks.proofs.Naming.{NamesSo}
 use Rattle.fb_types_networks.proofs.wiring.instance_table.Given as goal
 

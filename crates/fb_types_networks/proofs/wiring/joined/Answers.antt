@@ -6,7 +6,7 @@ use Rattle.fb_types_blocks.proofs.Refused.{either_of}
 use Rattle.fb_model.specs.NetworkTyping.{given_in}
 use Rattle.fb_types_networks.specs.Views.{names_of, connection_of, wired_of}
 use Rattle.fb_types_networks.specs.Ends.{inner_of, ends_of}
-use Rattle.fb_types_networks.specs.Refusals.{no_memory_for_network, faulty_events, faulty_values_of}
+use Rattle.fb_model.specs.NetworkFaults.{no_memory_for_network, faulty_events, faulty_values_of}
 use Rattle.fb_types_networks.proofs.Giving.{faults_same, values_same}
 use Rattle.fb_types_networks.proofs.Networks.{tabled, wired_of_parts}
 use Rattle.fb_types_networks.proofs.wiring.joined.Goals as goal

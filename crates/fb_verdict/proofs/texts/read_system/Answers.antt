@@ -1,6 +1,6 @@
 use Rattle.std.proofs.Common.{◌∙◌, subst, sym}
 use Rattle.fb_tree.specs.Files.{source_of}
-use Rattle.fb_verdict.specs.Verdicts.{IsTextFault}
+use Rattle.fb_model.specs.Verdicts.{IsTextFault}
 use Rattle.fb_verdict.proofs.Reading.{no_memory, along, text_fault, typed_of}
 use Rattle.fb_verdict.proofs.texts.read_system.Goals as goal
 

@@ -1,7 +1,7 @@
 use Rattle.std.proofs.Common.{◌∙◌, subst, sym}
 use Rattle.fb_tree.specs.Files.{source_of}
 use Rattle.fb_types.specs.Views.{system_of}
-use Rattle.fb_verdict.specs.Verdicts.{IsTypingFault}
+use Rattle.fb_model.specs.Verdicts.{IsTypingFault}
 use Rattle.fb_verdict.proofs.Reading.{typing_fault, no_space}
 use Rattle.fb_verdict.proofs.texts.resolved.Goals as goal
 

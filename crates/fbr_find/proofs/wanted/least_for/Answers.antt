@@ -1,7 +1,7 @@
 use Rattle.fb_cert.specs.Views.{certificate_of}
 use Rattle.fb_types.specs.Views.{system_of}
-use Rattle.fb_find.specs.Bounds.{IsNoBound}
-use Rattle.fb_find_laws.specs.Finding.{IsFound}
+use Rattle.fb_model.specs.Finding.{IsNoBound}
+use Rattle.fb_model.specs.Finding.{IsFound}
 use Rattle.fbr_find.specs.Bounding.{IsUnbound}
 use Rattle.fbr_find.proofs.Found.{unbound_is, bounded_as}
 use Rattle.fbr_find.proofs.wanted.least_for.Goals as goal

@@ -1,8 +1,8 @@
 use Rattle.std.proofs.Common.{ap}
 use Rattle.std.proofs.lemmas.Result.{IfErr-weaker, IfOk-weaker, err_from_is_err_and}
 use Rattle.fb_tree.specs.Words as read
-use Rattle.fb_types_networks.specs.Ends.{within}
-use Rattle.fb_types_networks.specs.Refusals.{unknown_instance, faulty_inner}
+use Rattle.fb_model.specs.NetworkFaults.{within}
+use Rattle.fb_model.specs.NetworkFaults.{unknown_instance, faulty_inner}
 use Rattle.fb_types_networks.proofs.end.Site.end.Goals as goal
 
 pub returns-in_err-body-in-Some-clause-refused : goal.returns-in_err-body-in-Some-clause-refused

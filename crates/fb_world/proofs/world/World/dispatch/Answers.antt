@@ -7,7 +7,7 @@ use Rattle.fb_device_dispatch.specs.Answers.{dispatched_of}
 use Rattle.fb_world_course.specs.declared.course.Course.{Course}
 use Rattle.fb_world_course.specs.Scenes.{Scene, scene_of, system_of, cert_of, world_of, world_in}
 use Rattle.fb_world_course.specs.Answers.{leaves_at}
-use Rattle.fb_world.specs.Laws.{Falls}
+use Rattle.fb_model.specs.Causes.{Falls}
 use Rattle.fb_world.proofs.Bounds.{falls}
 use Rattle.fb_world_course.proofs.Kept.{count_same, scene_same, kept_same, kept_more}
 use Rattle.fb_world.proofs.world.World.dispatch.Goals as goal

@@ -3,7 +3,7 @@ use Rattle.fb_model.specs.World.{WorldHappens}
 use Rattle.fb_verified.specs.Checked.{system_in, certificate_in}
 use Rattle.fb_world_course.specs.Scenes.{Scene, world_of, world_in}
 use Rattle.fb_world_course.specs.Answers.{event_of, device_of, leaves_at, answer_of}
-use Rattle.fb_world.specs.Laws.{Falls}
+use Rattle.fb_model.specs.Causes.{Falls}
 use Rattle.fb_world.proofs.Bounds.{falls}
 use Rattle.fb_world_course.proofs.Kept.{scene_same, kept_same, kept_more, on_err}
 use Rattle.fb_world.proofs.world.World.step.Goals as goal

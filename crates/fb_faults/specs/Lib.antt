@@ -1,0 +1,11 @@
+pub mod Texts
+pub mod Statements
+pub mod Typings
+pub mod Certificates
+pub mod Rows
+pub mod Depths
+pub mod Ranges
+pub mod Columns
+pub mod Refusals
+pub mod NoBounds
+pub mod Places
