@@ -6,10 +6,10 @@ ghost use Rattle.fb_cert.specs.Views.{rows_of, certificate_of, text_row_of, row_
 ghost use Rattle.fb_cert.specs.Printed.{row_line, entries_of, printed};
 
 use crate::certificate::Certificate;
-use fb_faults::OutOfMemory;
 use crate::kind::Kind;
 use crate::law::printed_spells;
 use crate::row::Row;
+use fb_faults::OutOfMemory;
 use std::alloc::{AllocError, Global};
 use std::fmt;
 

@@ -14,9 +14,9 @@ ghost use Rattle.fb_cert.specs.Answers.{Gives, Makes, Finds, Tells};
 ghost use Rattle.fb_model.specs.RefusedCertificates.{Faulty, Refuses};
 
 use crate::certificate::Certificate;
-use fb_faults::CertFault;
 use crate::lists::Lists;
 use crate::row::{begins_cert, is_head, read_row};
+use fb_faults::CertFault;
 use std::alloc::{AllocError, Global};
 
 /// The most bytes of a text.

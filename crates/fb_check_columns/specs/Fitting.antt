@@ -32,5 +32,3 @@ AllPay col ranges s = AllByRecursion (λ (d : Device). ColumnFits col ranges (le
 -- what is known of all leaves
 abbrev pub AreKnown : List Range → System → Type 0
 AreKnown ranges s = AllByRecursion (λ (d : Device). AllByRecursion (IsKnownLeaf ranges) (leaves d)) s.devices
-
--- ---- channels

@@ -19,10 +19,10 @@ ghost use Rattle.fb_check_columns.specs.Reckoning.{weight_of};
 ghost use Rattle.fb_check_columns.specs.Sums.{IsSum};
 
 use crate::column::{Column, is_within, plus};
-use fb_faults::Shortfall;
 use crate::weights::weight;
 use fb_cert::Certificate;
 use fb_check_ranges::leaves_of;
+use fb_faults::Shortfall;
 use fb_flat::{Body, Flat, FlatDevice, Leaf};
 use fb_types_services::points::ARRIVE;
 use fb_types_services::{Channel, Service};

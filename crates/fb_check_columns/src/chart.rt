@@ -10,10 +10,10 @@ ghost use Rattle.fb_check_columns.specs.Paying.{IsMemory, IsCharge, IsWeight, Na
 
 use crate::column::{Column, plus};
 use crate::cost::{Prices, acted, at};
-use fb_faults::Shortfall;
 use crate::rows::{Rows, charges, weights};
 use crate::weights::{charged, weighed};
 use fb_cert::Certificate;
+use fb_faults::Shortfall;
 use fb_types_blocks::{Action, Block, Transition};
 use indexmap::IndexMap;
 use std::alloc::Global;

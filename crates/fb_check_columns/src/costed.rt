@@ -19,9 +19,9 @@ ghost use Rattle.fb_check_columns.specs.Sharing.{HasCosts, IsCosted};
 
 use crate::column::Column;
 use crate::cost::costs;
-use fb_faults::Shortfall;
 use fb_cert::Certificate;
 use fb_check_ranges::{are_alike, block_rows};
+use fb_faults::Shortfall;
 use fb_ranges::Ranges;
 use fb_types_blocks::Block;
 use indexmap::IndexMap;

@@ -17,10 +17,10 @@ use crate::chart::chart_pays;
 use crate::column::Column;
 use crate::cost::Prices;
 use crate::costed::{Costed, algorithm_costs};
-use fb_faults::Shortfall;
 use crate::service::service_pays;
 use crate::weights::loads;
 use fb_cert::Certificate;
+use fb_faults::Shortfall;
 use fb_flat::{Body, Leaf};
 use std::alloc::Global;
 

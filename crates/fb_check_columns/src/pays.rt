@@ -13,9 +13,9 @@ ghost use Rattle.fb_model.specs.Misfits.{IsUnpaid};
 
 use crate::column::Column;
 use crate::costed::Costed;
-use fb_faults::Shortfall;
 use crate::leaf::leaf_pays;
 use fb_cert::Certificate;
+use fb_faults::Shortfall;
 use fb_flat::{Flat, FlatDevice, FlatResource, Leaf};
 use std::alloc::Global;
 

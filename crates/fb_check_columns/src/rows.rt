@@ -8,9 +8,9 @@ ghost use Rattle.fb_check_columns.specs.Read.{AreRead};
 ghost use Rattle.fb_check_columns.specs.Paying.{IsMemory};
 
 use crate::column::Column;
-use fb_faults::Shortfall;
 use crate::weights::{charge, charge_in, weight, weight_in};
 use fb_cert::Certificate;
+use fb_faults::Shortfall;
 use fb_types_blocks::{Action, Block, Events};
 use indexmap::IndexMap;
 use std::alloc::Global;

@@ -12,9 +12,9 @@ ghost use Rattle.fb_check_columns.specs.Columns.{column_of};
 ghost use Rattle.fb_check_columns.specs.Paying.{IsWeight, Names, DispatchPays, OneOwes};
 
 use crate::column::{Column, plus};
-use fb_faults::Shortfall;
 use crate::weights::{loads_named, weighed, weight};
 use fb_cert::Certificate;
+use fb_faults::Shortfall;
 use fb_flat::Output;
 use fb_types_services::Service;
 use fb_types_services::points::INIT;

@@ -9,8 +9,8 @@ ghost use Rattle.fb_check_columns.specs.Reckoning.{weight_of, charge_of, load_of
 ghost use Rattle.fb_check_columns.specs.Paying.{IsMemory, IsCharge, IsWeight, Names, Pays};
 
 use crate::column::{Column, is_within, plus};
-use fb_faults::Shortfall;
 use fb_cert::Certificate;
+use fb_faults::Shortfall;
 use fb_flat::{Output, Target, joined};
 use std::alloc::{AllocError, Global};
 

@@ -15,7 +15,3 @@ pub record IsKnownLeaf (leaf : Leaf) : Type 0 where
 
 abbrev pub AreKnown : System → Type 0
 AreKnown s = AllByRecursion (λ (d : Device). AllByRecursion IsKnownLeaf (leaves d)) s.devices
-
--- ---- rows that are clear
-
--- ---- refusals

@@ -19,10 +19,10 @@ ghost use Rattle.fb_check_ranges.specs.Beginning.{entry_name, shown, IsRange, In
 ghost use Rattle.fb_model.specs.Misfits.{Begins};
 ghost use Rattle.fb_check_ranges.specs.Clearing.{InputFails, OtherFails};
 
-use fb_faults::Unclear;
 use crate::link::source_named;
 use crate::row::row;
 use fb_cert::Certificate;
+use fb_faults::Unclear;
 use fb_flat::{Input, Source, joined};
 use fb_ranges_intervals::{Interval, is_within, whole};
 use fb_types_blocks::{Variable, Variables};

@@ -12,10 +12,10 @@ ghost use Rattle.fb_check_ranges.specs.Fitting.{AreKnown};
 ghost use Rattle.fb_model.specs.Misfits.{AllClear, IsUnclear, OneLeafFails};
 ghost use Rattle.fb_check_ranges.specs.Tables.{AreKnownLeaves, DevicePasses, DeviceRefused};
 
-use fb_faults::Unclear;
 use crate::leaf::leaf_clear;
 use crate::place::{Places, leaves_of, places};
 use fb_cert::Certificate;
+use fb_faults::Unclear;
 use fb_flat::{Flat, FlatDevice, Leaf};
 use std::alloc::Global;
 

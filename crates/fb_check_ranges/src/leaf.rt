@@ -18,12 +18,12 @@ ghost use Rattle.fb_check_ranges.specs.Tables.{AreKnownLeaves};
 
 use crate::begin::{inputs_begin, others_begin};
 use crate::examined::{Examined, note, was_examined};
-use fb_faults::Unclear;
 use crate::link::links_lie;
 use crate::place::Places;
 use crate::row::block_rows;
 use crate::run::{algorithms_clear, guards_clear};
 use fb_cert::Certificate;
+use fb_faults::Unclear;
 use fb_flat::{Body, Input, Leaf};
 use fb_types_blocks::Block;
 use std::alloc::Global;

@@ -14,10 +14,10 @@ ghost use Rattle.fb_check_ranges.specs.Places.{ArePlaces, held, SourceLies};
 ghost use Rattle.fb_check_ranges.specs.Beginning.{entry_name, shown, LinkLies};
 ghost use Rattle.fb_check_ranges.specs.Clearing.{LinkFails};
 
-use fb_faults::Unclear;
 use crate::place::Places;
 use crate::row::{leaf_row, row};
 use fb_cert::Certificate;
+use fb_faults::Unclear;
 use fb_flat::{Input, Source, joined};
 use fb_ranges_intervals::{Interval, is_within};
 use fb_types_blocks::Variables;

@@ -5,8 +5,8 @@ ghost use Rattle.fb_types_services.specs.Views.{service_of};
 ghost use Rattle.fb_check_rows.specs.Depths.{is_begun, IsBegin, ResourceBegins, IsDepthFault, IsMemory};
 
 use crate::resource::{depth, service_places};
-use fb_faults::Shallow;
 use fb_cert::Certificate;
+use fb_faults::Shallow;
 use fb_flat::{Body, FlatResource, Leaf};
 use fb_types_services::Service;
 use std::alloc::Global;

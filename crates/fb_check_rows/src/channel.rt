@@ -9,8 +9,8 @@ ghost use Rattle.fb_flat.specs.Leaves.{kind_of};
 ghost use Rattle.fb_types_services.specs.Views.{service_of};
 ghost use Rattle.fb_check_rows.specs.Channels.{leaf_channels, resource_channels, device_channels, channels_named, HasChannel, IsNamed, MissesChannel, KnowsNot, channels_due, HaveSameChannels, IsOtherChannel};
 
-use fb_faults::RowFault;
 use fb_cert::Certificate;
+use fb_faults::RowFault;
 use fb_flat::{Body, Flat, FlatDevice, FlatResource, Leaf};
 use fb_types_services::Service;
 use std::alloc::{AllocError, Global};

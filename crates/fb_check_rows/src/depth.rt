@@ -10,8 +10,8 @@ ghost use Rattle.fb_model.specs.Misfits.{IsShallowFault};
 
 use crate::begin::begins_fit;
 use crate::resource::arrivals_fit;
-use fb_faults::Shallow;
 use fb_cert::Certificate;
+use fb_faults::Shallow;
 use fb_flat::{Flat, FlatDevice, FlatResource};
 use std::alloc::Global;
 

@@ -13,10 +13,10 @@ ghost use Rattle.fb_check_rows.specs.Texts.{paths_of, texts_of, HaveSameRows, Ha
 ghost use Rattle.fb_check_rows.specs.Faults.{IsDifference, IsRowFault};
 
 use crate::channel::channels_match;
-use fb_faults::RowFault;
 use crate::kind::{PathRows, RowKind, has_row, path_at, row_count};
 use crate::requirement::required;
 use fb_cert::Certificate;
+use fb_faults::RowFault;
 use fb_flat::Flat;
 use indexmap::IndexSet;
 use std::alloc::Global;

@@ -12,8 +12,8 @@ ghost use Rattle.fb_check_rows.specs.Members.{gathered, with_name};
 ghost use Rattle.fb_check_rows.specs.Texts.{texts_in, ranged_names, row_names, leaf_texts, resource_texts, device_texts, texts_of};
 ghost use Rattle.fb_check_rows.specs.Faults.{IsMemory};
 
-use fb_faults::RowFault;
 use crate::kind::RowKind;
+use fb_faults::RowFault;
 use fb_flat::{Body, Flat, FlatDevice, FlatResource, Leaf, joined};
 use fb_types_blocks::{Block, Variables};
 use fb_types_services::Service;

@@ -7,8 +7,8 @@ ghost use Rattle.fb_cert.specs.Views.{certificate_of};
 ghost use Rattle.fb_types_services.specs.Views.{service_of};
 ghost use Rattle.fb_check_rows.specs.Depths.{depth_of, arrival_of, IsMost, ResourceArrives, IsDepthFault, IsMemory};
 
-use fb_faults::Shallow;
 use fb_cert::Certificate;
+use fb_faults::Shallow;
 use fb_flat::{Body, FlatResource, Leaf, joined};
 use fb_types_services::Service;
 use std::alloc::Global;

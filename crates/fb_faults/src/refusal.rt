@@ -4,12 +4,12 @@ ghost use Rattle.std.specs.Prelude.{◌≡◌};
 ghost use Rattle.fb_faults.specs.declared.refusal.Refusal.TheVariants.{OutOfMemory};
 
 use crate::certificate::CertFault;
-use crate::shortfall::Shortfall;
-use crate::unclear::Unclear;
 use crate::row::RowFault;
 use crate::shallow::Shallow;
+use crate::shortfall::Shortfall;
 use crate::text::TextFault;
 use crate::typing::TypeFault;
+use crate::unclear::Unclear;
 use std::alloc::{AllocError, AllocFailed};
 use std::fmt;
 

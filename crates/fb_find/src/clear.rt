@@ -10,10 +10,9 @@ ghost use Rattle.fb_model.specs.Finding.{IsNoBoundAt};
 ghost use Rattle.fb_find.specs.Parts.{HasRanges, HaveTables, told_of};
 
 use fb_cert::Certificate;
-use fb_faults::Unclear;
 use fb_check_ranges::rows_clear;
+use fb_faults::{NoBound, Unclear};
 use fb_find_ranges::add_ranges;
-use fb_faults::NoBound;
 use fb_flat::Flat;
 use fb_ranges::Ranges;
 use std::alloc::Global;

@@ -11,10 +11,9 @@ ghost use Rattle.fb_find_rows.specs.Needs.{IsPastFault};
 ghost use Rattle.fb_model.specs.Finding.{IsNeverBound};
 ghost use Rattle.fb_find.specs.Crowds.{IsCrowded};
 
-use fb_faults::NoBound;
+use fb_faults::{NoBound, TypeFault};
 use fb_flat::{Flat, flatten, flatten_resource, joined};
 use fb_types::{Configuration, Device, Resource, Typed};
-use fb_faults::TypeFault;
 use std::alloc::Global;
 
 // Whether a resource follows few connections.

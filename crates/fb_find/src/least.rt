@@ -17,8 +17,8 @@ ghost use Rattle.fb_find.specs.Parts.{events_in, states_in, CanBeAdded, HasRange
 use crate::column;
 use crate::network::add_network;
 use fb_cert::Certificate;
-use fb_find_demands::{Numbering, plain_rights, priced_rights};
 use fb_faults::NoBound;
+use fb_find_demands::{Numbering, plain_rights, priced_rights};
 use fb_find_rows::{add_charges, add_depths, add_weights};
 use fb_flat::Flat;
 use fb_ranges::Ranges;

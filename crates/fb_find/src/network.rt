@@ -16,8 +16,8 @@ ghost use Rattle.fb_find.specs.Networks.{with_repeat, with_places, with_network,
 use crate::column;
 use crate::least::{MOST_STEPS, Ordered, behind};
 use fb_cert::{Certificate, Row};
-use fb_find_demands::{Numbering, far_rights};
 use fb_faults::NoBound;
+use fb_find_demands::{Numbering, far_rights};
 use fb_find_rows::{add_channels, add_far_states, add_fars};
 use fb_ranges::Ranges;
 use std::alloc::{AllocError, Global};

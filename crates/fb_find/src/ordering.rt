@@ -7,8 +7,8 @@ ghost use Rattle.fb_find.specs.Given.{IsNumbered};
 ghost use Rattle.fb_find.specs.Columns.{IsCycle, FulfilsAll};
 ghost use Rattle.fb_model.specs.Finding.{asked};
 
-use fb_find_demands::{Numbering, Right, group, network_rights, plain_rights};
 use fb_faults::NoBound;
+use fb_find_demands::{Numbering, Right, group, network_rights, plain_rights};
 use fb_find_rows::sorted;
 use fb_flat::Flat;
 use std::alloc::{AllocError, Global};

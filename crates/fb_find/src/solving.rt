@@ -5,8 +5,8 @@ ghost use Rattle.fb_model.specs.Demands.{Demand};
 ghost use Rattle.fb_find_demands.specs.Rights.{rights_of};
 ghost use Rattle.fb_find.specs.Columns.{AreSmallest, IsColumn, IsPastFault};
 
-use fb_find_demands::{Numbering, Right, group};
 use fb_faults::NoBound;
+use fb_find_demands::{Numbering, Right, group};
 use fb_find_rows::{Nodes, solved};
 use std::alloc::Global;
 

@@ -13,10 +13,9 @@ ghost use Rattle.fb_find_demands.specs.Shown.{asked, shown_node, AreTables, IsNu
 
 use crate::walk_numbers::numbers_of;
 use crate::{Numbering, Right, group, network_rights, numbering, plain_rights};
+use fb_faults::{Place, TypeFault};
 use fb_find_graph::is_closed_walk;
-use fb_faults::Place;
 use fb_flat::{Flat, flatten};
-use fb_faults::TypeFault;
 use fb_types::Typed;
 use std::alloc::{AllocError, Global};
 

@@ -18,8 +18,8 @@ ghost use Rattle.fb_find_demands.specs.Ends.{end_of};
 use crate::Numbering;
 use crate::channels::{channels, ends};
 use crate::leaves::every_leaf;
-use fb_faults::RowFault;
 use fb_check_rows::{RowKind, required};
+use fb_faults::RowFault;
 use fb_flat::Flat;
 use std::alloc::Global;
 

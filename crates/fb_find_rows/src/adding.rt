@@ -10,9 +10,9 @@ ghost use Rattle.fb_flat.specs.Tables.{AreDevices, IsDevice, IsResource};
 ghost use Rattle.fb_find_rows.specs.Needs.{AreFresh, all_rows, device_rows, IsPastFault, paths, resource_texts, with_more};
 ghost use Rattle.fb_model.specs.Finding.{IsPastAmong, IsPastHere, IsPastIn, needed_depth};
 
-use fb_faults::NoBound;
 use crate::need::needed;
 use fb_cert::{Certificate, Row};
+use fb_faults::NoBound;
 use fb_flat::{Flat, FlatDevice, FlatResource};
 use std::alloc::Global;
 

@@ -7,8 +7,8 @@ ghost use Rattle.fb_find_graph.specs.Views.{system_of};
 ghost use Rattle.fb_find_rows.specs.Places.{texts_of};
 ghost use Rattle.fb_find_rows.specs.Faults.{IsWalk};
 
-use fb_faults::NoBound;
 use crate::place::places;
+use fb_faults::NoBound;
 use fb_find_graph::{Alternative, Sorted, rows_needed, sort_places};
 use indexmap::IndexSet;
 use std::alloc::Global;

@@ -8,8 +8,8 @@ ghost use Rattle.fb_find_graph.specs.Views.{system_of};
 ghost use Rattle.fb_find_rows.specs.Places.{text_at, texts_of};
 ghost use Rattle.fb_find_rows.specs.Faults.{IsPastLimit, IsResourceIn};
 
-use fb_faults::NoBound;
 use crate::resource::resource_in;
+use fb_faults::NoBound;
 use fb_find_graph::{Alternative, Solved, solve};
 use indexmap::IndexSet;
 use std::alloc::{AllocError, Global};

@@ -16,12 +16,11 @@ ghost use Rattle.fb_find_search.specs.Searching.{AreFirstOf, IsFoundSomehow, IsN
 
 use fb_cert::{Certificate, Row};
 use fb_check_rows::{RowKind, required};
+use fb_faults::{NoBound, TypeFault};
 use fb_find::{find, find_within};
 use fb_find_candidate::candidate;
-use fb_faults::NoBound;
 use fb_flat::{Flat, flatten};
 use fb_ranges_intervals::Interval;
-use fb_faults::TypeFault;
 use fb_types::Typed;
 use indexmap::IndexSet;
 use std::alloc::{AllocError, Global};

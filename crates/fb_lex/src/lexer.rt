@@ -8,10 +8,10 @@ ghost use Rattle.fb_lex.specs.Scanning.{begins_layout};
 ghost use Rattle.fb_lex.specs.Lexing.{Steps, Finds, Refuses};
 ghost use Rattle.fb_lex.specs.Views.{tokens_of};
 
-use fb_faults::TextFault;
 use crate::gap::{behind_layout, comment_at};
 use crate::scan::scan;
 use crate::token::Token;
+use fb_faults::TextFault;
 use std::alloc::Global;
 
 /// The most bytes of a text.

@@ -6,12 +6,12 @@ ghost use Rattle.fb_lex.specs.Scanning.{sign_at, marked, plain_at, word_at, begi
 ghost use Rattle.fb_lex.specs.Lexing.{Counts, Stays, GivesKind, Scans};
 
 use crate::characters::is_start;
-use fb_faults::TextFault;
 use crate::literal::literal_at;
 use crate::number::number_at;
 use crate::sign::sign_at;
 use crate::token::Kind;
 use crate::word::{find_word, named, word_at};
+use fb_faults::TextFault;
 use std::alloc::Global;
 
 fn number(value: Option<u64>) -> Option<Kind>

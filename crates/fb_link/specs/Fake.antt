@@ -3,7 +3,7 @@ use Rattle.std.specs.Prelude.{◌≡◌, ◌<◌, List, [], ◌∷◌, ◌++◌,
 use Rattle.std.specs.declared.io.ErrorKind.{ErrorKind}
 use Rattle.std.specs.declared.io.ErrorKind.TheVariants.{WouldBlock}
 use Rattle.std.specs.declared.net.socket_addr.SocketAddr.{SocketAddr}
-use Rattle.fb_link.specs.Link.{LinkCall, Handed, Silent, Sent}
+use Rattle.fb_words.specs.Links.{LinkCall, Handed, Silent, Sent}
 use Rattle.fb_link.specs.Memory.{Memory, MemorySteps, receive_of, after_receive}
 use Rattle.fb_link.specs.Socket.{SocketCall, SentTo, Took, Missed, IsHere}
 

@@ -1,20 +1,10 @@
 -- What calls of links do. This project's profile.
-use Rattle.std.specs.Prelude.{ℕ, ◌≤◌, List, ◌++◌, Bool, take, codes}
+use Rattle.std.specs.Prelude.{ℕ, ◌≤◌, List, ◌++◌, take, codes}
 use Rattle.std.specs.Fmt.{decimal}
 use Rattle.fb_link.specs.declared.udp.SocketFault.{SocketFault}
 use Rattle.fb_link.specs.declared.link.Received.{Received}
 use Rattle.fb_link.specs.declared.link.Received.TheVariants.{Nothing, Got, Failed}
-
--- one call of a link, with what it answered
-pub data LinkCall : Type 0 where
-  -- a receive into this much room gave these bytes
-  Handed : (room : ℕ) → (bytes : List ℕ) → LinkCall
-  -- a receive gave nothing
-  Silent : LinkCall
-  -- a receive failed
-  Broken : LinkCall
-  -- a send of these bytes, and whether it was done
-  Sent : (bytes : List ℕ) → (ok : Bool) → LinkCall
+use Rattle.fb_words.specs.Links.{Broken, Handed, LinkCall, Silent}
 
 -- the receive that gave this answer and left these bytes in the buffer
 abbrev pub receipt : Received → List ℕ → ℕ → LinkCall

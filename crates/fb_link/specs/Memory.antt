@@ -1,7 +1,7 @@
 -- Links in memory: what each call does. This project's profile.
 use Rattle.std.specs.Prelude.{◌≡◌, ℕ, ◌+◌, List, [], ◌∷◌, ◌++◌, length, take, Bool, true, if◌then◌else◌, ◌==◌, nat_lt, nat_le, ◌&&◌, not}
 use Rattle.std.specs.List.{list_any}
-use Rattle.fb_link.specs.Link.{LinkCall, Handed, Silent, Broken, Sent}
+use Rattle.fb_words.specs.Links.{LinkCall, Handed, Silent, Broken, Sent}
 
 -- a link in memory: the datagrams still to come, those that it took, and the calls that are to fail
 pub record Memory : Type 0 where

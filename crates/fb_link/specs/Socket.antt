@@ -9,7 +9,7 @@ use Rattle.std.specs.declared.net.ip_addr.IpAddr.{IpAddr}
 use Rattle.std.specs.declared.net.ip_addr.IpAddr.TheVariants as ip
 use Rattle.std.specs.declared.net.socket_addr.SocketAddr.{SocketAddr}
 use Rattle.std.specs.declared.net.socket_addr.SocketAddr.TheVariants.{V4, V6}
-use Rattle.fb_link.specs.Link.{LinkCall, Handed, Silent, Broken, Sent}
+use Rattle.fb_words.specs.Links.{LinkCall, Handed, Silent, Broken, Sent}
 
 -- one call of a socket, with what it answered
 pub data SocketCall : Type 0 where

@@ -1,7 +1,8 @@
 //! Links.
 
 ghost use Rattle.std.specs.Prelude.{◌≡◌, ◌+◌, ℕ, length, if◌then◌else◌};
-ghost use Rattle.fb_link.specs.Link.{LinkCall, Sent, receipt, FitsRoom, failures_of};
+ghost use Rattle.fb_link.specs.Link.{receipt, FitsRoom, failures_of};
+ghost use Rattle.fb_words.specs.Links.{LinkCall, Sent};
 ghost use Rattle.fb_link.specs.declared.link.Received.{Received};
 ghost use Rattle.fb_link.specs.declared.link.Received.TheVariants.{Nothing};
 

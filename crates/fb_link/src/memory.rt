@@ -1,7 +1,7 @@
 //! Links in memory.
 
 ghost use Rattle.std.specs.Prelude.{◌≡◌, ◌≤◌, List, ℕ, [], map, drop, take, length, min, slice_get, None, Some, IfOk, MatchOption};
-ghost use Rattle.fb_link.specs.Link.{LinkCall};
+ghost use Rattle.fb_words.specs.Links.{LinkCall};
 ghost use Rattle.fb_link.specs.Memory.{Memory, MemorySteps, is_among, next_number};
 
 use crate::link::{Link, Received};

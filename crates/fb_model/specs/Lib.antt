@@ -56,3 +56,4 @@ pub mod Finding
 pub mod Worlds
 pub mod Causes
 pub mod Promises
+pub mod Turning

@@ -12,10 +12,10 @@ ghost use Rattle.fb_ranges.specs.Views.{spans_of};
 
 use crate::assigned::names_assigned;
 use crate::examination::{Assigning, examine_keeping};
-use fb_faults::OutOfMemory;
 use crate::fault::RangeFault;
 use crate::rows::Ranges;
 use crate::told::{Told, answer, most};
+use fb_faults::OutOfMemory;
 use st_types::Algo;
 use std::alloc::{AllocError, Global};
 

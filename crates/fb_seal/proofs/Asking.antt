@@ -1,6 +1,6 @@
 -- What a gate is asked while a sealed link receives.
 use Rattle.std.proofs.Common.{arith, ◌≡◌, ℕ, ◌+◌, ◌≤◌, min, Bool, true, false, List, [], ◌∷◌, length, refl, ◌∙◌, ap, subst}
-use Rattle.fb_link.specs.Link.{LinkCall, Handed, Silent, Broken, Sent}
+use Rattle.fb_words.specs.Links.{LinkCall, Handed, Silent, Broken, Sent}
 use Rattle.fb_seal.specs.declared.link.Dropped.{Dropped}
 use Rattle.fb_seal.specs.declared.peers.Peer.{Peer}
 use Rattle.fb_seal.specs.declared.peers.Reason.{Reason}

@@ -1,6 +1,6 @@
 -- Receives of a sealed link: bytes that are dropped, one after another.
 use Rattle.std.proofs.Common.{◌≡◌, ℕ, ◌+◌, Bool, List, [], ◌∷◌, ◌++◌, length, refl, sym, ◌∙◌, ap, subst, length-append}
-use Rattle.fb_link.specs.Link.{LinkCall, Handed}
+use Rattle.fb_words.specs.Links.{LinkCall, Handed}
 use Rattle.fb_seal.specs.declared.link.Dropped.{Dropped}
 use Rattle.fb_seal.specs.declared.peers.Peer.{Peer}
 use Rattle.fb_seal.specs.declared.peers.Reason.{Reason}

@@ -1,6 +1,6 @@
 -- What a gate is asked while a sealed link receives. This project's profile.
 use Rattle.std.specs.Prelude.{◌≡◌, ℕ, ◌+◌, min, List, [], ◌∷◌, Bool, if◌then◌else◌}
-use Rattle.fb_link.specs.Link.{LinkCall, Handed}
+use Rattle.fb_words.specs.Links.{LinkCall, Handed}
 use Rattle.fb_seal.specs.declared.link.Dropped.{Dropped}
 use Rattle.fb_seal.specs.declared.peers.Peer.{Peer}
 use Rattle.fb_seal.specs.Ledger.{Note}

@@ -1,6 +1,6 @@
 -- What a sealed link asks of the link below it, and what it makes of the answers. This project's profile.
 use Rattle.std.specs.Prelude.{◌≡◌, ◌⊎◌, ℕ, ◌+◌, ◌<◌, ◌≤◌, min, nat_lt, nat_le, List, [], ◌∷◌, length, take, Bool, true, false, ◌&&◌}
-use Rattle.fb_link.specs.Link.{LinkCall, Handed, Silent, Broken, Sent}
+use Rattle.fb_words.specs.Links.{LinkCall, Handed, Silent, Broken, Sent}
 use Rattle.fb_link.specs.Socket.{IsNoCall}
 use Rattle.fb_seal.specs.declared.link.Dropped.{Dropped}
 use Rattle.fb_seal.specs.declared.peers.Peer.{Peer}

@@ -2,7 +2,7 @@
 
 ghost use Rattle.std.specs.Prelude.{◌≡◌, ◌≤◌, ◌<◌, ℕ, Bool, List, Some, true, slice_get};
 ghost use Rattle.std.specs.List.{AllByRecursion};
-ghost use Rattle.fb_link.specs.Link.{LinkCall};
+ghost use Rattle.fb_words.specs.Links.{LinkCall};
 ghost use Rattle.fb_seal.specs.Gates.{AsksOfEach, ReceivesAll};
 ghost use Rattle.fb_seal.specs.Seal.{Sealed};
 ghost use Rattle.fb_seal.specs.Reading.{AreBytes, Envelope, Says, reading};

@@ -1,7 +1,7 @@
 -- Who keeps to its rate is handed on.
 use Rattle.std.proofs.Common.{◌≡◌, ℕ, ◌≤◌, Bool, true, List, [], ◌∷◌, subst}
 use Rattle.std.specs.List.{AllByRecursion}
-use Rattle.fb_link.specs.Link.{LinkCall}
+use Rattle.fb_words.specs.Links.{LinkCall}
 use Rattle.fb_pace.specs.Buckets.{answers_for}
 use Rattle.fb_pace.specs.Pacing.{Asks, AsksAll, Pacing}
 use Rattle.fb_pace.proofs.Apart.{loses_nothing}

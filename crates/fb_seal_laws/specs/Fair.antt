@@ -1,7 +1,7 @@
 -- Who loses nothing at a gate of buckets. This project's profile.
 use Rattle.std.specs.Prelude.{◌≡◌, ℕ, List, map, Bool, true, Some}
 use Rattle.std.specs.List.{AllByRecursion}
-use Rattle.fb_link.specs.Link.{LinkCall}
+use Rattle.fb_words.specs.Links.{LinkCall}
 use Rattle.fb_pace.specs.declared.bucket.Bucket.{Bucket}
 use Rattle.fb_pace.specs.Rates.{IsWithin}
 use Rattle.fb_pace.specs.Buckets.{Ask, answers_for, bucket_of, moments_of}

@@ -1,7 +1,7 @@
 //! The law of sealed links with rates.
 
 ghost use Rattle.std.specs.Prelude.{◌≤◌, ℕ, List};
-ghost use Rattle.fb_link.specs.Link.{LinkCall};
+ghost use Rattle.fb_words.specs.Links.{LinkCall};
 ghost use Rattle.fb_pace.specs.Pacing.{Asks, Pacing};
 ghost use Rattle.fb_seal.specs.Gates.{ReceivesAll};
 ghost use Rattle.fb_seal.specs.declared.link.Dropped.{Dropped};

@@ -9,14 +9,15 @@ use Rattle.fb_model.specs.System.{Device}
 use Rattle.fb_model.specs.Certificates.{Certificate}
 use Rattle.fb_model.specs.Devices.{Machine, Event, Tick, Dispatch, Answer, Expired, Run, Happens}
 use Rattle.fb_model.proofs.Ending.{run_more}
-use Rattle.fb_link.specs.Link.{LinkCall, Silent, Broken}
+use Rattle.fb_words.specs.Links.{LinkCall, Silent, Broken}
 use Rattle.fb_device_arrivals.specs.Answers.{admission_of}
 use Rattle.fb_device_arrivals.specs.declared.denied.Denied.{Denied}
 use Rattle.fb_verified.specs.declared.verified.Verified.{Verified}
 use Rattle.fb_verified.specs.Checked.{system_in, certificate_in}
 use Rattle.fb_device_state.specs.Sessions.{Session}
 use Rattle.fb_device_state.specs.Machines.{device_at, device_in, cert_in}
-use Rattle.fb_turn.specs.Turns.{Chain, Receipt, Close, Sixteenth, Quiet, Cut, delivery, handing, close_calls, is_cut, denials_of, Service, sends, losses, each_once, Sight, coming, serving, IsTurn, Receives, ServesOne, Serves}
+use Rattle.fb_turn.specs.Turns.{Receives, ServesOne, Serves}
+use Rattle.fb_model.specs.Turning.{Chain, Receipt, Close, Sixteenth, Quiet, Cut, delivery, handing, close_calls, is_cut, denials_of, Service, sends, losses, each_once, Sight, coming, serving, IsTurn}
 
 -- two sessions of one program have one certificate and one device
 pub along : (s t : Session) (P : Certificate → Device → Type 0) → s.verified ≡ t.verified → s.number ≡ t.number → P (cert_in s) (device_in s) → P (cert_in t) (device_in t)

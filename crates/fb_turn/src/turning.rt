@@ -6,13 +6,14 @@ ghost use Rattle.fb_model.specs.Messages.{spelling};
 ghost use Rattle.fb_model.specs.Wires.{Leaf};
 ghost use Rattle.fb_model.specs.Devices.{Happens, Dispatch};
 ghost use Rattle.fb_model.specs.Headline.{KeepsBounds, StaysWithinAll};
-ghost use Rattle.fb_link.specs.Link.{Sent};
+ghost use Rattle.fb_words.specs.Links.{Sent};
 ghost use Rattle.fb_chart.specs.Responses as responses;
 ghost use Rattle.fb_device_dispatch.specs.Answers.{dispatched_of};
 ghost use Rattle.fb_device_state.specs.Machines.{device_in, cert_in, machine_of};
 ghost use Rattle.fb_model.specs.Promises.{IsBounded};
-ghost use Rattle.fb_turn.specs.Turns as turns;
-ghost use Rattle.fb_turn.specs.Turns.{Turn, Receipt, Close, Service, IsTurn, IsTold, Receives, ServesOne, Serves, GoesOut};
+ghost use Rattle.fb_model.specs.Turning as turns;
+ghost use Rattle.fb_turn.specs.Turns.{IsTold, Receives, ServesOne, Serves, GoesOut};
+ghost use Rattle.fb_model.specs.Turning.{Turn, Receipt, Close, Service, IsTurn};
 
 use crate::watching::Watch;
 use fb_device::{Device, Dispatched, Effect};

@@ -5,7 +5,7 @@ ghost use Rattle.fb_model.specs.Wires.{leaves};
 ghost use Rattle.fb_device_arrivals.specs.Answers.{admission_of};
 ghost use Rattle.fb_device_dispatch.specs.Answers.{dispatched_of};
 ghost use Rattle.fb_device_state.specs.Machines.{device_in};
-ghost use Rattle.fb_turn.specs.Turns.{Sight, Came, Served};
+ghost use Rattle.fb_model.specs.Turning.{Sight, Came, Served};
 
 use fb_device::{Denied, Device, Dispatched};
 

@@ -6,9 +6,9 @@ ghost use Rattle.fb_find_demands.specs.Shown.{IsNumbered};
 
 use crate::join::Join;
 use crate::met::{joined, own};
+use fb_faults::NoBound;
 use fb_find_demands::{Numbering, group, plain_rights};
 use fb_find_graph::Alternative;
-use fb_faults::NoBound;
 use fb_find_rows::sorted;
 use fb_flat::Flat;
 use std::alloc::{AllocError, Global};

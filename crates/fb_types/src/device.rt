@@ -15,8 +15,8 @@ use crate::made::Memo;
 use crate::resource::resources;
 use crate::table::Types;
 use crate::typed::Device;
-use fb_tree::DeviceTree;
 use fb_faults::TypeFault;
+use fb_tree::DeviceTree;
 use fb_types_blocks::{at_most, table};
 use std::alloc::Global;
 

@@ -6,8 +6,8 @@ ghost use Rattle.fb_types_networks.specs.Views.{body_of};
 ghost use Rattle.fb_types.specs.Made.{shape_of, shape_uses, body_uses, IsMemo, IsDone};
 ghost use Rattle.fb_types.specs.declared.made.Unmade.TheVariants.{Fault};
 
-use fb_tree::BlockTree;
 use fb_faults::TypeFault;
+use fb_tree::BlockTree;
 use fb_types_blocks::{Block, Face};
 use fb_types_networks::{Body, Network};
 use indexmap::IndexMap;

@@ -19,8 +19,8 @@ ghost use Rattle.fb_types.specs.Made.{tree_of, IsTable, IsMemo, IsNamed, IsOpen,
 
 use crate::made::{Made, Memo, Shape, Unmade, body, recall, remember};
 use crate::table::{Types, type_of};
-use fb_tree::{BlockTree, BodyTree, ChartTree, InstanceTree, NetworkTree};
 use fb_faults::TypeFault;
+use fb_tree::{BlockTree, BodyTree, ChartTree, InstanceTree, NetworkTree};
 use fb_types_blocks::{Face, basic, face};
 use fb_types_networks::{Body, Instance, plain, served, wire};
 use std::alloc::{AllocError, Global};

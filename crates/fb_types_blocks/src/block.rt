@@ -11,12 +11,12 @@ ghost use Rattle.fb_types_blocks.specs.Views.{block_of, declared_in, face_of, st
 ghost use Rattle.fb_model.specs.BlockFaults.{IsChartExcess, IsChartFault, IsBasicFault};
 
 use crate::chart::control_chart;
-use fb_faults::TypeFault;
 use crate::interface::{own_names, ports};
 use crate::names::{at_most, table};
 use crate::scope::scope;
 use crate::typed::{Block, ControlChart, Face, Variables};
 use crate::variable::{declare_variables, variables};
+use fb_faults::TypeFault;
 use fb_tree::{BlockTree, ChartTree};
 use std::alloc::Global;
 

@@ -13,9 +13,9 @@ ghost use Rattle.fb_types_blocks.specs.Answers.{names_in_map, IsChart};
 ghost use Rattle.fb_types_blocks.specs.Views.{action_of, states_of, transition_of, procedures_of};
 ghost use Rattle.fb_model.specs.BlockFaults.{IsActionFault, IsStateFault, IsGuardFault, IsEndsFault, IsTransitionFault, IsAlgorithmFault, IsChartFault, Among};
 
-use fb_faults::TypeFault;
 use crate::names::{add, known, known_if_some, optional};
 use crate::typed::{Action, ControlChart, Events, Face, Transition};
+use fb_faults::TypeFault;
 use fb_tree::{ActionTree, AlgorithmTree, ChartTree, GuardTree, StateTree, TransitionTree};
 use indexmap::IndexMap;
 use st_types::{Algo, Scope, TypedExpr, resolve_algorithm, resolve_condition};

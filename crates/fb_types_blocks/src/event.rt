@@ -10,9 +10,9 @@ ghost use Rattle.fb_types_blocks.specs.Answers.{names_in_map};
 ghost use Rattle.fb_types_blocks.specs.Views.{events_of};
 ghost use Rattle.fb_model.specs.BlockFaults.{IsUnknown, IsEventFault, Among};
 
-use fb_faults::TypeFault;
 use crate::names::{add, known};
 use crate::typed::{Events, Variables};
+use fb_faults::TypeFault;
 use fb_tree::{EventTree, Name};
 use indexmap::IndexMap;
 use std::alloc::Global;

@@ -12,10 +12,10 @@ ghost use Rattle.fb_types_blocks.specs.Views.{names_of, declared_in, events_of, 
 ghost use Rattle.fb_model.specs.BlockFaults.{IsRepetition, IsFaceFault};
 
 use crate::event::events;
-use fb_faults::TypeFault;
 use crate::names::{at_most, declare};
 use crate::typed::{Events, Face, Variables};
 use crate::variable::{declare_variables, few_variables, variables};
+use fb_faults::TypeFault;
 use fb_tree::{BlockTree, EventTree, VariableTree};
 use indexmap::IndexSet;
 use std::alloc::Global;

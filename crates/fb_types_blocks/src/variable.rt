@@ -10,10 +10,10 @@ ghost use Rattle.fb_model.specs.BlockFaults.{place_of};
 ghost use Rattle.fb_types_blocks.specs.Views.{names_of, declared_in};
 ghost use Rattle.fb_model.specs.BlockFaults.{IsRepetition, IsExcess, IsBoundsFault, IsBoundsFaultIfSome, IsStartFault, IsVariableFault, Among};
 
-use fb_faults::TypeFault;
 use crate::names::{add, at_most, declare};
 use crate::number::{bound, constant};
 use crate::typed::{Variable, Variables};
+use fb_faults::TypeFault;
 use fb_tree::{BoundsTree, Name, StartTree, VariableTree};
 use fb_words::ElemType;
 use indexmap::{IndexMap, IndexSet};

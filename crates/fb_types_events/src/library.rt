@@ -5,8 +5,8 @@ ghost use Rattle.fb_model.specs.EventBlocks.{AreEventBlocks};
 ghost use Rattle.fb_tree.specs.Files.{block_of};
 ghost use Rattle.fb_faults.specs.declared.typing.TypeFault.TheVariants.{OutOfMemory};
 
-use fb_text::{Source, parse};
 use fb_faults::TypeFault;
+use fb_text::{Source, parse};
 use std::alloc::Global;
 
 /// The event blocks, read from their text: a source that declares them, and a system of no devices.

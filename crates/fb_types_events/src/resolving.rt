@@ -9,10 +9,10 @@ ghost use Rattle.fb_types.specs.Views.{system_of, system_offsets, all_offsets};
 ghost use Rattle.fb_model.specs.SourceFaults.{IsRefused};
 
 use crate::event_blocks;
+use fb_faults::TypeFault;
 use fb_text::Source;
 use fb_tree::FileTree;
 use fb_types::{Configuration, Typed, resolve_with};
-use fb_faults::TypeFault;
 use std::alloc::Global;
 
 // The system of a tree.

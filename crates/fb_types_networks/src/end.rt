@@ -16,8 +16,8 @@ ghost use Rattle.fb_model.specs.NetworkFaults.{IsWrongPort, IsOwnFault, IsInnerF
 
 use crate::face::{has_event, type_in};
 use crate::typed::{Body, End, Instance};
-use fb_tree::{Name, PortTree};
 use fb_faults::TypeFault;
+use fb_tree::{Name, PortTree};
 use fb_types_blocks::Face;
 use fb_words::{Carried, ElemType, Way};
 use indexmap::IndexSet;

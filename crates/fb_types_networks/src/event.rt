@@ -12,8 +12,8 @@ ghost use Rattle.fb_model.specs.NetworkFaults.{Among, IsEventFault};
 
 use crate::end::Site;
 use crate::typed::{Connection, End};
-use fb_tree::ConnectionTree;
 use fb_faults::TypeFault;
+use fb_tree::ConnectionTree;
 use fb_words::Way;
 use std::alloc::Global;
 

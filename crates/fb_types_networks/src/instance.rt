@@ -18,8 +18,8 @@ ghost use Rattle.fb_types_networks.specs.Answers.{inputs_in, reserved_in, IsPara
 ghost use Rattle.fb_model.specs.NetworkFaults.{IsParameterFault, IsParametersFault, IsPlainFault, IsServedFault};
 
 use crate::typed::{Body, Instance, Parameter};
-use fb_tree::{InstanceTree, ParameterTree};
 use fb_faults::TypeFault;
+use fb_tree::{InstanceTree, ParameterTree};
 use fb_types_blocks::{constant, insert};
 use fb_types_services::{Service, bare, served as service_of_tree};
 use fb_words::ElemType;

@@ -14,8 +14,8 @@ ghost use Rattle.fb_types_services.specs.Views.{channel_of, service_of};
 
 use crate::number::whole;
 use crate::service::{Channel, Service};
-use fb_tree::{InstanceTree, Literal, ParameterTree};
 use fb_faults::TypeFault;
+use fb_tree::{InstanceTree, Literal, ParameterTree};
 use fb_words::{ElemType, Format};
 use std::alloc::Global;
 

@@ -59,6 +59,6 @@ of_texts text certificate typed rows f t r h =
       system_is = t.system_is;
       certificate_is = r;
       fault =
-        misfit_weaker (Crowds typed) (SomeCrowded t.system_is.source.system.devices (system_of typed).devices) (system_of typed) rows f
-        (λ at k. devices_crowded t.system_is.source.system.devices typed.devices.items at t.offsets k) h;
+          misfit_weaker (Crowds typed) (SomeCrowded t.system_is.source.system.devices (system_of typed).devices) (system_of typed) rows f
+          (λ at k. devices_crowded t.system_is.source.system.devices typed.devices.items at t.offsets k) h;
     }

@@ -23,23 +23,23 @@ pub exactly_texts : (text certificate : List ℕ) (r : Result Checked Refusal) �
 exactly_texts text certificate (Ok v) h short all =
     record {
       only = λ system rows e.
-        let s : system_in v ≡ system = cc in
-        let c : certificate_in v ≡ rows = cc in (
-          record {
-            short = record { text_within = short.0; certificate_within = short.1 };
-            system_is = subst (IsSystemOf text) s h.system_is;
-            certificate_is = subst (Spells certificate) c h.certificate_is;
-          },
-          subst (λ x. Fits x rows) s (subst (Fits (system_in v)) c h.fits),
-        );
+          let s : system_in v ≡ system = cc in
+          let c : certificate_in v ≡ rows = cc in (
+            record {
+              short = record { text_within = short.0; certificate_within = short.1 };
+              system_is = subst (IsSystemOf text) s h.system_is;
+              certificate_is = subst (Spells certificate) c h.certificate_is;
+            },
+            subst (λ x. Fits x rows) s (subst (Fits (system_in v)) c h.fits),
+          );
       always = λ system rows f given fits e. absurd cc;
     }
 exactly_texts text certificate (Err g) h short all =
     record {
       only = λ system rows e. absurd cc;
       always = λ system rows f given fits e.
-        let k : g ≡ f = cc in
-        subst (λ x. x ≡ OutOfMemory) k (all given.system_is.source system rows given.short.text_within given.short.certificate_within given.system_is.source_is given.system_is.typed given.certificate_is fits);
+          let k : g ≡ f = cc in
+          subst (λ x. x ≡ OutOfMemory) k (all given.system_is.source system rows given.short.text_within given.short.certificate_within given.system_is.source_is given.system_is.typed given.certificate_is fits);
     }
 
 -- of a system and a certificate
@@ -47,17 +47,17 @@ pub exactly_given : (system : System) (rows : Certificate) (r : Result Checked R
 exactly_given system rows (Ok v) same fits all =
     record {
       only = λ s c e.
-        let a : s ≡ system = (let i : system_in v ≡ s = cc in let j : system_in v ≡ system = same.0 in cc) in
-        let b : c ≡ rows = (let i : certificate_in v ≡ c = cc in let j : certificate_in v ≡ rows = same.1 in cc) in
-        ((a, b), subst (λ x. Fits x c) (sym a) (subst (Fits system) (sym b) fits));
+          let a : s ≡ system = (let i : system_in v ≡ s = cc in let j : system_in v ≡ system = same.0 in cc) in
+          let b : c ≡ rows = (let i : certificate_in v ≡ c = cc in let j : certificate_in v ≡ rows = same.1 in cc) in
+          ((a, b), subst (λ x. Fits x c) (sym a) (subst (Fits system) (sym b) fits));
       always = λ s c f given h e. absurd cc;
     }
 exactly_given system rows (Err g) same fits all =
     record {
       only = λ s c e. absurd cc;
       always = λ s c f given h e.
-        let k : g ≡ f = cc in
-        subst (λ x. x ≡ OutOfMemory) k (all (subst (λ x. Fits x rows) given.0 (subst (Fits s) given.1 h)));
+          let k : g ≡ f = cc in
+          subst (λ x. x ≡ OutOfMemory) k (all (subst (λ x. Fits x rows) given.0 (subst (Fits s) given.1 h)));
     }
 
 -- refusals

@@ -18,8 +18,8 @@ ghost use Rattle.fb_model.specs.Verdicts.{IsTextFault, IsTypingFault, IsCertific
 ghost use Rattle.fb_faults.specs.declared.refusal.Refusal.TheVariants.{OutOfMemory};
 ghost use Rattle.fb_faults.specs.declared.refusal.Refusal.TheVariants as refusals;
 
-use fb_faults::Refusal;
 use fb_cert::{Certificate, parse_cert};
+use fb_faults::Refusal;
 use fb_text::{Source, parse};
 use fb_types::Typed;
 use fb_types_events::resolve;

@@ -31,13 +31,12 @@ ghost use Rattle.fb_faults.specs.declared.text.TextFault.TheVariants as texts;
 ghost use Rattle.fb_faults.specs.declared.refusal.Refusal.TheVariants.{OutOfMemory};
 ghost use Rattle.fb_faults.specs.declared.refusal.Refusal.TheVariants as refusals;
 
-use fb_faults::Refusal;
 use crate::texts::{read_certificate, read_system};
 use fb_cert::Certificate;
-use fb_faults::Shortfall;
 use fb_check_columns::{Column, channels_pay, column_pays};
 use fb_check_ranges::rows_clear;
 use fb_check_rows::{depths_fit, rows_match};
+use fb_faults::{Refusal, Shortfall};
 use fb_flat::{Flat, flatten};
 use fb_types::Typed;
 use fb_verified::Verified;

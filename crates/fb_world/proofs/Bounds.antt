@@ -83,7 +83,7 @@ reached_kept v w c r =
     record {
       told = reached_told v w c r;
       arrivals = λ es as' new repeats total arrival opening run e few a was t within.
-        bounds_one (system_in v) (checks.certificate_in v) (all_hold v c) r.first r.is_first es as' new run (λ m i. fits_pays (system_in v) (checks.certificate_in v) m (c.fits.far m i)) repeats total arrival opening e few a was t within;
+          bounds_one (system_in v) (checks.certificate_in v) (all_hold v c) r.first r.is_first es as' new run (λ m i. fits_pays (system_in v) (checks.certificate_in v) m (c.fits.far m i)) repeats total arrival opening e few a was t within;
       far = λ m n e opened within. root_bounded v w c r m n e opened.0 opened.1 within;
     }
 

@@ -9,8 +9,7 @@ ghost use Rattle.fbr_texts.specs.Once.{nothing, written_of};
 ghost use Rattle.fbr_texts.specs.Parts.{start_of};
 ghost use Rattle.fbr.specs.Together.{AreFilesAdded, IsApplicationAdded, IsFaultAmong, IsFileAdded, IsFileFault, IsJoined, IsOwnFault, IsJoinFault, fault_of};
 
-use fb_faults::TextFault;
-use fb_faults::Refusal;
+use fb_faults::{Refusal, TextFault};
 use fbr_files::{Fault, FileText, Held, Sources, read_file};
 use fbr_find::typed_in;
 use fbr_texts::{Joined, Joining};

@@ -1,9 +1,6 @@
 //! Where in a text a refusal stands.
 
-use fb_faults::CertFault;
-use fb_faults::TextFault;
-use fb_faults::TypeFault;
-use fb_faults::Refusal;
+use fb_faults::{CertFault, Refusal, TextFault, TypeFault};
 use fbr_places::Declared;
 
 // The byte that the refusal of a text names.

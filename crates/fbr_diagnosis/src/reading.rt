@@ -1,10 +1,9 @@
 //! What is read again of texts that were refused, each part once.
 
-use fb_faults::CertFault;
 use fb_cert::{Certificate, parse_cert};
+use fb_faults::{CertFault, Refusal};
 use fb_lex::Token;
 use fb_tree::FileTree;
-use fb_faults::Refusal;
 use fbr_leaves::{System, system_again};
 use fbr_places::{tokens_of, tree_in};
 use std::alloc::{AllocError, Global};

@@ -1,9 +1,8 @@
 //! The note on datagrams that come back without end, where a certificate does not follow them: the finder is asked for one that does.
 
 use crate::paths::Paths;
+use fb_faults::{NoBound, Place};
 use fb_find::find;
-use fb_faults::NoBound;
-use fb_faults::Place;
 use fb_flat::Leaf;
 use fb_verified::Verified;
 use fbr_leaves::{channel_of, received_from, system_in};

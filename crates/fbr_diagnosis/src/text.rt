@@ -2,11 +2,9 @@
 
 use crate::diagnosis::{Advised, Asked, Finding};
 use crate::reading::Reading;
-use fb_faults::TextFault;
+use fb_faults::{Refusal, TextFault, TypeFault};
 use fb_lex::Token;
 use fb_tree::FileTree;
-use fb_faults::TypeFault;
-use fb_faults::Refusal;
 use fbr_advice::advice::Advice;
 use fbr_advice::tokens::{index_at, name_of};
 use fbr_advice::wanted::Cursor;

@@ -10,11 +10,10 @@ use crate::reading::Reading;
 use crate::text::{is_application, text_finding};
 use fb_cert::Certificate;
 use fb_check_ranges::block_rows;
+use fb_faults::{NoBound, Refusal};
 use fb_find::find;
-use fb_faults::NoBound;
 use fb_flat::Flat;
 use fb_types::Typed;
-use fb_faults::Refusal;
 use fbr_faults::Fault;
 use fbr_leaves::{System, block_in, place_at};
 use fbr_needs::{

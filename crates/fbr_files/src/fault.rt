@@ -3,8 +3,7 @@
 ghost use Rattle.std.specs.Prelude.{◌≡◌, ◌≤◌};
 ghost use Rattle.fbr_files.specs.Statuses.{status_of_code, status_of_no_bound};
 
-use fb_faults::NoBound;
-use fb_faults::Refusal;
+use fb_faults::{NoBound, Refusal};
 use std::alloc::AllocError;
 use std::fmt;
 

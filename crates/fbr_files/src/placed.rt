@@ -7,9 +7,7 @@ ghost use Rattle.fbr_files.specs.Placed as placed;
 ghost use Rattle.fbr_files.specs.Placed.{outcome_at};
 
 use crate::fault::Fault;
-use fb_faults::TextFault;
-use fb_faults::TypeFault;
-use fb_faults::Refusal;
+use fb_faults::{Refusal, TextFault, TypeFault};
 use fbr_texts::Meant;
 use std::io::Write;
 use std::{fmt, io};

@@ -10,9 +10,8 @@ ghost use Rattle.fbr_files.specs.declared.fault.Fault.TheVariants.{Memory};
 ghost use Rattle.fbr_find.specs.Bounding.{IsTypedFault, bound_in};
 
 use fb_cert::{Certificate, print_cert};
-use fb_faults::NoBound;
+use fb_faults::{NoBound, Refusal};
 use fb_types::Typed;
-use fb_faults::Refusal;
 use fb_verdict::read_system;
 use fbr_files::Fault;
 use std::alloc::Global;

@@ -16,14 +16,13 @@ ghost use Rattle.fbr_words.specs.Requests.{ranges_of, sought_of};
 ghost use Rattle.fbr_find.specs.Bounding.{AreRangesRead, IsReadFor, HoldsRows, IsGivenFault, IsKeptFault, IsUnboundKeeping, IsUnbound, IsRangesFault, IsSystemFault, IsTextFaultAsked, IsFoundBy, IsTextOf, IsTextAsked, IsFitting, IsAccepted, IsLengthFault, IsSoughtText, IsSoughtFault, with_room as roomed};
 
 use crate::finding::{bounded, text_of, typed_in};
-use fb_faults::CertFault;
 use fb_cert::{Certificate, parse_cert};
+use fb_faults::{CertFault, Refusal};
 use fb_find::find;
 use fb_find_length::rows_are_long;
 use fb_find_room::with_room;
 use fb_find_search::{find_keeping, search};
 use fb_types::Typed;
-use fb_faults::Refusal;
 use fbr_files::{Fault, FileText, Sources, read_app, read_file};
 use fbr_words::{Bound, Ranges};
 use std::alloc::Global;

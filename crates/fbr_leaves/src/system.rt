@@ -1,12 +1,11 @@
 //! Systems that are read of texts.
 
+use fb_faults::{Refusal, TypeFault};
 use fb_flat::{Flat, flatten};
 use fb_text::{Source, parse};
 use fb_tree::FileTree;
-use fb_faults::TypeFault;
 use fb_types::Typed;
 use fb_types_events::resolve;
-use fb_faults::Refusal;
 use std::alloc::{AllocError, Global};
 
 /// The source tree of an application's text, and the system that it is.

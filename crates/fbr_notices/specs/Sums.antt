@@ -2,7 +2,8 @@
 use Rattle.std.specs.Prelude.{ℕ, ◌+◌, min, List, ◌++◌, codes}
 use Rattle.std.specs.List.{sum_by}
 use Rattle.std.specs.Fmt.{decimal}
-use Rattle.fb_turn.specs.Turns.{Turn, report_of}
+use Rattle.fb_turn.specs.Turns.{report_of}
+use Rattle.fb_model.specs.Turning.{Turn}
 use Rattle.fb_turn.specs.declared.turning.Report.{Report}
 use Rattle.fbr_notices.specs.declared.sums.Sums.{Sums}
 

@@ -1,7 +1,7 @@
 //! Networks, instance by instance and connection by connection.
 
-use fb_tree::{ConnectionTree, InstanceTree, Name, NetworkTree, PortTree};
 use fb_faults::TypeFault;
+use fb_tree::{ConnectionTree, InstanceTree, Name, NetworkTree, PortTree};
 use fb_types_blocks::Face;
 use fb_types_networks::{Body, Instance, Parameter, plain, served};
 use fb_types_services::{Channel, Service};

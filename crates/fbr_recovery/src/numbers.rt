@@ -1,7 +1,7 @@
 //! Numbers of services and shapes of channels, of the devices of a system.
 
-use fb_tree::{BlockTree, BodyTree, DeviceTree, InstanceTree, ResourceTree};
 use fb_faults::TypeFault;
+use fb_tree::{BlockTree, BodyTree, DeviceTree, InstanceTree, ResourceTree};
 use fb_types_services::{Channel, Service, served};
 use fb_words::{ElemType, Format};
 use fbr_recovery_found::Found;

@@ -3,9 +3,9 @@
 use crate::networks::Beside;
 use crate::numbers::tell_numbers;
 use crate::rings::tell_rings;
+use fb_faults::TypeFault;
 use fb_lex::Token;
 use fb_tree::{BlockTree, BodyTree, DeviceTree, FileTree, SystemTree};
-use fb_faults::TypeFault;
 use fbr_recovery_found::{Found, Lexed, MOST, Mistake, mistake_of, read_tokens};
 use fbr_recovery_text::{Reading, Text, read_text};
 use fbr_recovery_types::{Types, declare};

@@ -1,7 +1,7 @@
 //! Composites inside themselves.
 
-use fb_tree::{BlockTree, BodyTree, InstanceTree};
 use fb_faults::TypeFault;
+use fb_tree::{BlockTree, BodyTree, InstanceTree};
 use fbr_recovery_found::Found;
 use fbr_recovery_types::Types;
 use std::alloc::{AllocError, Global};

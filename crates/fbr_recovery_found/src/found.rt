@@ -1,8 +1,7 @@
 //! Faults that are found.
 
-use fb_faults::TextFault;
+use fb_faults::{TextFault, TypeFault};
 use fb_lex::Token;
-use fb_faults::TypeFault;
 use fb_words::Mark;
 use fbr_advice::tokens::{index_at, mark_of, name_of};
 use indexmap::IndexSet;

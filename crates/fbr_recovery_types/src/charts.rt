@@ -1,12 +1,11 @@
 //! Types of execution control charts and algorithms, part by part.
 
 use crate::variables::{declare, known, variables_of};
+use fb_faults::{TypeFault, TypingFault};
 use fb_tree::{AlgorithmTree, BlockTree, ChartTree, StateTree, Stmt, TransitionTree};
-use fb_faults::TypeFault;
 use fb_types_blocks::{Face, Variables, basic};
 use fbr_recovery_found::Found;
 use indexmap::{IndexMap, IndexSet};
-use fb_faults::TypingFault;
 use st_types::{Scope, Variable, resolve_algorithm, resolve_condition};
 use std::alloc::{AllocError, Global};
 use std::slice::from_ref;

@@ -1,8 +1,8 @@
 //! Interfaces of block types, whatever is at fault in them.
 
 use crate::variables::{declare, known, variables_of};
-use fb_tree::{BlockTree, EventTree};
 use fb_faults::TypeFault;
+use fb_tree::{BlockTree, EventTree};
 use fb_types_blocks::{Events, Face, Variables};
 use fbr_recovery_found::Found;
 use indexmap::{IndexMap, IndexSet};

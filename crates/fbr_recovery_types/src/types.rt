@@ -2,8 +2,8 @@
 
 use crate::charts::type_chart;
 use crate::faces::face_of;
-use fb_tree::{BlockTree, BodyTree, Name};
 use fb_faults::TypeFault;
+use fb_tree::{BlockTree, BodyTree, Name};
 use fb_types_blocks::{Face, face};
 use fb_types_events::event_blocks;
 use fb_types_networks::{Body, Network};

@@ -1,7 +1,7 @@
 //! Declarations of names and of variables, whatever is at fault in them.
 
-use fb_tree::{BoundsTree, Constant, Literal, Name, VariableTree};
 use fb_faults::TypeFault;
+use fb_tree::{BoundsTree, Constant, Literal, Name, VariableTree};
 use fb_types_blocks::{Variable, Variables, constant, insert};
 use fb_words::ElemType;
 use fbr_recovery_found::Found;

@@ -6,9 +6,9 @@ use Rattle.fb_model.specs.Certificates.{Certificate}
 use Rattle.fb_model.specs.Devices.{Machine, Event, Tick, Deliver, Answer, Admitted, Denied, Expired, Idle, Ran, Run}
 use Rattle.fb_model_replay.specs.Alike.{AreAlike, IsAlike}
 use Rattle.fb_model_replay.proofs.Running.{run_once}
-use Rattle.fb_link.specs.Link.{LinkCall}
+use Rattle.fb_words.specs.Links.{LinkCall}
 use Rattle.fb_record.specs.Records.{Entry}
-use Rattle.fb_turn.specs.Turns.{Receipt, Service, Turn, answers_of, delivery, each_once, effect_of, events_of, is_cut, writes, writes_for}
+use Rattle.fb_model.specs.Turning.{Receipt, Service, Turn, answers_of, delivery, each_once, effect_of, events_of, is_cut, writes, writes_for}
 use Rattle.fbr_notices.specs.Sums.{TurnAt}
 use Rattle.fbr_serve.specs.Serving.{Turns, IsTaken, lines_of, turn_lines, write_line}
 use Rattle.fbr_serve.specs.Recording.{IsEnded, entry_of}

@@ -2,10 +2,10 @@
 use Rattle.std.proofs.Common.{◌≡◌, ◌==◌, ◌||◌, inl, inr, Result, Ok, Err, ℕ, ◌+◌, ◌<◌, ◌≤◌, Bool, true, false, if◌then◌else◌, List, [], ◌∷◌, ◌++◌, map, length, take, zero, suc, refl, sym, ap, ap₂, subst, ◌∙◌, arith}
 use Rattle.std.specs.List.{AllByRecursion, flat_map, list_any}
 use Rattle.std.proofs.lemmas.Bool.{eqb-true, eq-eqb, lt-ltb, leb-true, ltb-true}
-use Rattle.fb_link.specs.Link.{LinkCall, Handed, Silent, Broken}
+use Rattle.fb_words.specs.Links.{LinkCall, Handed, Silent, Broken}
 use Rattle.fb_link.specs.Memory.{Memory, MemorySteps, after_receive, fails_receive, first_of, is_spent, next_number, rest_of}
 use Rattle.fb_record.specs.Records.{Entry, IsPlayable, is_within}
-use Rattle.fb_turn.specs.Turns.{Chain, Close, Sixteenth, Quiet, Cut, ClosesAt, Receipt, Turn, close_calls, handing, is_cut, sends}
+use Rattle.fb_model.specs.Turning.{Chain, Close, Sixteenth, Quiet, Cut, ClosesAt, Receipt, Turn, close_calls, handing, is_cut, sends}
 use Rattle.fb_model.specs.System.{Device}
 use Rattle.fb_model.specs.Certificates.{Certificate}
 use Rattle.fb_model.specs.Devices.{Machine}

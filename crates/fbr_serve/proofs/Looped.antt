@@ -8,7 +8,7 @@ use Rattle.fb_model.specs.System.{Device}
 use Rattle.fb_model.specs.Certificates.{Certificate}
 use Rattle.std.specs.declared.net.ip_addr.IpAddr.{IpAddr}
 use Rattle.std.specs.declared.net.socket_addr.SocketAddr.{SocketAddr}
-use Rattle.fb_link.specs.Link.{LinkCall}
+use Rattle.fb_words.specs.Links.{LinkCall}
 use Rattle.fb_link.specs.Socket.{SocketCall}
 use Rattle.fb_verified.specs.Checked.{system_in, certificate_in}
 use Rattle.fb_verified.specs.declared.verified.Verified.{Verified}

@@ -5,7 +5,7 @@ use Rattle.std.specs.List.{flat_map}
 use Rattle.std.specs.Io.KnownBytes.{Appends}
 use Rattle.std.proofs.lemmas.Grind.{flat_map-append}
 use Rattle.fb_record.specs.Records.{end_text, start_text, words_text}
-use Rattle.fb_turn.specs.Turns.{Turn, Receipt, Service as Dispatch, Chain, Sight, coming, serving, sights_of, is_cut}
+use Rattle.fb_model.specs.Turning.{Turn, Receipt, Service as Dispatch, Chain, Sight, coming, serving, sights_of, is_cut}
 use Rattle.fbr_notices.specs.Sums.{TurnAt}
 use Rattle.fbr_serve.specs.Recording.{Held, RecordsTurn, Records, record_line, sight_word}
 

@@ -9,7 +9,7 @@ use Rattle.fb_addresses.specs.Addresses.{endpoint_of, parts_of}
 use Rattle.fb_model.specs.System.{Device}
 use Rattle.fb_model.specs.Certificates.{Certificate}
 use Rattle.fb_model.specs.Devices.{Machine}
-use Rattle.fb_link.specs.Link.{LinkCall, Handed, Silent, Broken, Sent}
+use Rattle.fb_words.specs.Links.{LinkCall, Handed, Silent, Broken, Sent}
 use Rattle.fb_link.specs.Socket.{SocketCall}
 use Rattle.fb_seal.specs.declared.peers.Peer.{Peer}
 use Rattle.fb_pace.specs.Pacing.{Asks, Pacing}
@@ -18,7 +18,7 @@ use Rattle.fb_seal.specs.declared.peers.Reason.TheVariants.{NotSealed, Stranger,
 use Rattle.fb_seal.specs.Seal.{sealed}
 use Rattle.fb_seal.specs.Ledger.{Note, Extends, ExtendsAt}
 use Rattle.fb_seal.specs.Passing.{Drops, IsLost, Own, Passes, Receipt, Receives, Refills, SealedStep, Sends, can_send}
-use Rattle.fb_turn.specs.Turns.{Chain, link_calls_of}
+use Rattle.fb_model.specs.Turning.{Chain, link_calls_of}
 use Rattle.fb_device_state.specs.Sessions.{Session}
 use Rattle.fb_device_state.specs.Machines.{device_in, cert_in, machine_of}
 use Rattle.fbr_words.specs.Program.{Service}

@@ -8,8 +8,9 @@ use Rattle.std.proofs.lemmas.Grind.{flat_map-append}
 use Rattle.fb_model.specs.System.{Device}
 use Rattle.fb_model.specs.Certificates.{Certificate}
 use Rattle.fb_model.specs.Devices.{Machine}
-use Rattle.fb_link.specs.Link.{LinkCall}
-use Rattle.fb_turn.specs.Turns.{Turn, Receipt, Service as Dispatch, Chain, Sight, IsTurn, coming, serving, sights_of, writes, report_of}
+use Rattle.fb_words.specs.Links.{LinkCall}
+use Rattle.fb_turn.specs.Turns.{report_of}
+use Rattle.fb_model.specs.Turning.{Turn, Receipt, Service as Dispatch, Chain, Sight, IsTurn, coming, serving, sights_of, writes}
 use Rattle.fbr_notices.specs.declared.sums.Sums.{Sums}
 use Rattle.fbr_notices.specs.Sums.{TurnAt, capped, sums_of, with_report}
 use Rattle.fbr_serve.specs.Serving.{Anything, IsTaken, Turns, write_line, turn_lines, lines_of, sight_lines}

@@ -9,7 +9,8 @@ use Rattle.fbr_lines.specs.Reading.{IsNext, TakesLine}
 use Rattle.fbr_lines.specs.declared.reading.Next.{Next}
 use Rattle.fbr_lines.specs.declared.reading.Next.TheVariants.{Last, End}
 use Rattle.fb_record.specs.Records.{Entry, entry_in}
-use Rattle.fb_turn.specs.Turns.{Turn, report_of}
+use Rattle.fb_turn.specs.Turns.{report_of}
+use Rattle.fb_model.specs.Turning.{Turn}
 use Rattle.fb_turn.specs.declared.turning.Report.{Report}
 use Rattle.fbr_notices.specs.declared.stop.Stop.{Stop}
 use Rattle.fbr_notices.specs.declared.stop.Stop.TheVariants as stops

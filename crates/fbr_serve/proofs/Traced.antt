@@ -6,9 +6,9 @@ use Rattle.std.proofs.lemmas.Bool.{cases_lt}
 use Rattle.fb_model.specs.System.{Device}
 use Rattle.fb_model.specs.Certificates.{Certificate}
 use Rattle.fb_model.specs.Devices.{Machine}
-use Rattle.fb_link.specs.Link.{LinkCall, Handed, Silent, Broken, Sent}
+use Rattle.fb_words.specs.Links.{LinkCall, Handed, Silent, Broken, Sent}
 use Rattle.fb_link.specs.Socket.{SocketCall, SentTo, Took, Missed, SendsToEach, DropsEach, Receives, TakesFrom, Asks, UdpStep}
-use Rattle.fb_turn.specs.Turns.{Chain, link_calls_of}
+use Rattle.fb_model.specs.Turning.{Chain, link_calls_of}
 use Rattle.fbr_notices.specs.Sums.{TurnAt}
 use Rattle.fbr_serve.specs.Serving.{IsTaken, Turns, Traced, Over, LinkAsks, failed_in}
 

@@ -9,7 +9,7 @@ use Rattle.fb_model.specs.Certificates.{Certificate}
 use Rattle.fb_model.specs.Devices.{Machine}
 use Rattle.fb_link.specs.Memory.{Memory, MemorySteps}
 use Rattle.fb_record.specs.Records.{Entry, entry_in, line_of, word_of}
-use Rattle.fb_turn.specs.Turns.{Turn, Sight, Came, Served, is_cut}
+use Rattle.fb_model.specs.Turning.{Turn, Sight, Came, Served, is_cut}
 use Rattle.fbr_lines.specs.Reading.{TakesLast, TakesLine, TakesPart}
 use Rattle.fbr_serve.specs.declared.replay.Halt.{Halt}
 use Rattle.fbr_serve.specs.declared.replay.Halt.TheVariants.{Line, Memory as Spent, Unreadable}

@@ -11,9 +11,10 @@ use Rattle.fb_model.specs.Spelling.{upper}
 use Rattle.std.specs.declared.net.ip_addr.IpAddr.{IpAddr}
 use Rattle.std.specs.declared.net.socket_addr.SocketAddr.{SocketAddr}
 use Rattle.fb_addresses.specs.Addresses.{endpoint_of, parts_of}
-use Rattle.fb_link.specs.Link.{LinkCall}
+use Rattle.fb_words.specs.Links.{LinkCall}
 use Rattle.fb_link.specs.Socket.{SocketCall, UdpStep}
-use Rattle.fb_turn.specs.Turns.{Turn, Cut, is_cut, Sight, Came, Served, Written, IsTurn, effect_of, writes_for, writes, report_of}
+use Rattle.fb_turn.specs.Turns.{report_of}
+use Rattle.fb_model.specs.Turning.{Turn, Cut, is_cut, Sight, Came, Served, Written, IsTurn, effect_of, writes_for, writes}
 use Rattle.fb_turn.specs.declared.turning.Report.{Report}
 use Rattle.fb_verdict.specs.Verdicts as verdicts
 use Rattle.fb_model.specs.Verdicts as truths

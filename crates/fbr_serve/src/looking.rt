@@ -2,7 +2,7 @@
 
 ghost use Rattle.std.specs.Prelude.{◌≡◌, Bool, false, true};
 ghost use Rattle.fb_device_state.specs.Machines.{device_in, cert_in, machine_of};
-ghost use Rattle.fb_turn.specs.Turns.{Turn};
+ghost use Rattle.fb_model.specs.Turning.{Turn};
 ghost use Rattle.fbr_serve.specs.Serving.{IsTaken, EndsTurn};
 
 use crate::notes::Notes;

@@ -2,7 +2,7 @@
 
 ghost use Rattle.std.specs.Prelude.{◌≡◌, ◌++◌, false, IfOk, codes};
 ghost use Rattle.std.specs.Io.KnownBytes.{Appends, Keeps};
-ghost use Rattle.fb_turn.specs.Turns.{Written as WrittenAt};
+ghost use Rattle.fb_model.specs.Turning.{Written as WrittenAt};
 ghost use Rattle.fbr_serve.specs.Serving.{sight_lines, write_line};
 ghost use Rattle.fbr_serve.specs.Recording.{sight_word};
 

@@ -1,9 +1,8 @@
 //! All faults of an application's text.
 
 use crate::given::NamedFile;
-use fb_faults::TextFault;
+use fb_faults::{Refusal, TextFault};
 use fb_lex::Token;
-use fb_faults::Refusal;
 use fbr_diagnosis::{Asked, Diagnosis, Reading, byte_in, diagnose};
 use fbr_files::Fault;
 use fbr_places::Named;

@@ -5,8 +5,7 @@ use crate::all::{Listener, MORE, tell_all};
 use crate::devices::put_devices;
 use crate::given::{Given, NamedFile};
 use crate::stray::{AS_UTF8, stray_in};
-use fb_faults::NoBound;
-use fb_faults::Refusal;
+use fb_faults::{NoBound, Refusal};
 use fbr_diagnosis::{
     Asked, Diagnosis, Reading, diagnose, diagnose_unbound, found_limit, meaning_of,
 };

@@ -10,13 +10,13 @@ ghost use Rattle.st_types.specs.Answers.{Gives};
 ghost use Rattle.st_types.specs.Elaborating as book;
 ghost use Rattle.st_types.specs.Views.{term_of, operand_of, entries, symbol_of};
 
-use fb_faults::TypingFault;
 use crate::operand::{
     Operand, constant, integer, linked, loosely_linked, operands_type, taken, truth,
 };
 use crate::operation::{arity, called, gives, stays_free};
 use crate::scope::{Scope, Variable, find, named};
 use crate::term::{Loose, TypedExpr};
+use fb_faults::TypingFault;
 use fb_tree::{Constant, Expr, Link, Literal, Name};
 use fb_words::{ElemType, Operation};
 use std::alloc::Global;

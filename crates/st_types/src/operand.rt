@@ -8,10 +8,10 @@ ghost use Rattle.st_types.specs.Answers.{Gives};
 ghost use Rattle.st_types.specs.Elaborating.{fixed_type, offered, common, brought, operands_type, constant_of, settled, settled_tails, taken, truth_of, integer_of};
 ghost use Rattle.st_types.specs.Views.{term_of, tail_of, loose_of, loose_tail_of, operand_of, operands_of};
 
-use fb_faults::TypingFault;
 use crate::operation::{allows, asks};
 use crate::term::{Loose, LooseLink, TypedExpr, TypedLink};
 use crate::types::{is_integer, widens};
+use fb_faults::TypingFault;
 use fb_words::{ElemType, Operation};
 use std::alloc::Global;
 

@@ -12,10 +12,10 @@ ghost use Rattle.st_types.specs.CommandViews.{busy_of, counting_of, command_of, 
 
 use crate::command::{Counting, TypedArm, TypedBranch, TypedStmt};
 use crate::expression::{asked, condition, known, signed, typed};
-use fb_faults::TypingFault;
 use crate::operand::integer;
 use crate::scope::{Scope, Variable, named};
 use crate::types::is_integer;
+use fb_faults::TypingFault;
 use fb_tree::{Arm, Bound, Branch, Constant, Expr, Label, Literal, Name, Stmt};
 use fb_words::ElemType;
 use std::alloc::{AllocError, Global};

@@ -13,10 +13,10 @@ ghost use Rattle.st_types.specs.CommandViews.{commands_of};
 
 use crate::command::TypedStmt;
 use crate::expression::{asked, condition};
-use fb_faults::TypingFault;
 use crate::scope::Scope;
 use crate::statement::commands;
 use crate::term::TypedExpr;
+use fb_faults::TypingFault;
 use fb_tree::{Expr, Stmt};
 use fb_words::ElemType;
 use std::alloc::Global;

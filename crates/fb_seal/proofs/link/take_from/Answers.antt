@@ -1,5 +1,5 @@
 use Rattle.std.proofs.Common.{arith, ◌≡◌, ◌∙◌, ℕ, ap, length, take, subst}
-use Rattle.fb_link.specs.Link.{Handed}
+use Rattle.fb_words.specs.Links.{Handed}
 use Rattle.fb_seal.proofs.Dropping.{one_more}
 use Rattle.fb_seal.proofs.link.take_from.Goals as goal
 

@@ -2,10 +2,10 @@ use Rattle.std.proofs.Common.{arith, List, ℕ, [], ◌∷◌, ◌++◌, refl, s
 use Rattle.std.proofs.lemmas.Grind.{common_steps}
 use Rattle.std.proofs.lemmas.List.Sums.{sum_by_push}
 use Rattle.fb_model.specs.Devices.{Happens, Deliver}
-use Rattle.fb_link.specs.Link.{Handed}
+use Rattle.fb_words.specs.Links.{Handed}
 use Rattle.fb_device_arrivals.specs.Answers.{admission_of}
 use Rattle.fb_device_state.specs.Machines.{device_in, cert_in, machine_of}
-use Rattle.fb_turn.specs.Turns.{Receipt, Quiet, Cut, denials}
+use Rattle.fb_model.specs.Turning.{Receipt, Quiet, Cut, denials}
 use Rattle.fb_turn.proofs.Turned.{along, receives_more, receives_quiet, receives_cut, denied_err, denied_ok}
 use Rattle.fb_turn.proofs.turning.receive_all.Goals as goal
 use Rattle.fb_turn.proofs.turning.receive_all.Goals.{then-is_err, else-is_err}

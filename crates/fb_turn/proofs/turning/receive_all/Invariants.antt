@@ -1,7 +1,7 @@
 use Rattle.std.proofs.Common.{◌≡◌, ◌≤◌, List, length}
 use Rattle.std.specs.List.{sum_by}
 use Rattle.fb_device_state.specs.Machines.{device_in, cert_in, machine_of}
-use Rattle.fb_turn.specs.Turns.{Receipt, denials}
+use Rattle.fb_model.specs.Turning.{Receipt, denials}
 use Rattle.fb_turn.proofs.Turned.{ReceivesSoFar}
 use Rattle.fb_turn.proofs.turning.receive_all.Given as goal
 

@@ -1,7 +1,8 @@
 use Rattle.std.proofs.Common.{arith, [], ◌∷◌, ◌++◌, ◌∙◌, ap, length-append}
 use Rattle.std.proofs.lemmas.List.Sums.{sum_by_push}
 use Rattle.fb_device_state.specs.Machines.{device_in, cert_in, machine_of}
-use Rattle.fb_turn.specs.Turns.{ServesOne, runs, takings, losses}
+use Rattle.fb_turn.specs.Turns.{ServesOne}
+use Rattle.fb_model.specs.Turning.{runs, takings, losses}
 use Rattle.fb_turn.specs.declared.turning.Services.{Services}
 use Rattle.fb_turn.proofs.Turned.{along, serves_more}
 use Rattle.fb_turn.proofs.turning.serve_all.Goals as goal

@@ -1,7 +1,8 @@
 use Rattle.std.proofs.Common.{◌≡◌, ◌≤◌, List, length}
 use Rattle.std.specs.List.{sum_by}
 use Rattle.fb_device_state.specs.Machines.{device_in, cert_in, machine_of}
-use Rattle.fb_turn.specs.Turns.{Service, Serves, runs, takings, losses}
+use Rattle.fb_turn.specs.Turns.{Serves}
+use Rattle.fb_model.specs.Turning.{Service, runs, takings, losses}
 use Rattle.fb_turn.proofs.turning.serve_all.Given as goal
 
 -- the resources so far were dispatched and counted

@@ -1,7 +1,7 @@
 use Rattle.fb_model.specs.Wires.{leaves}
 use Rattle.fb_device_dispatch.specs.Answers.{dispatched_of}
 use Rattle.fb_device_state.specs.Machines.{device_in}
-use Rattle.fb_turn.specs.Turns.{Served}
+use Rattle.fb_model.specs.Turning.{Served}
 use Rattle.fb_turn.proofs.Turned.{along}
 use Rattle.fb_turn.proofs.turning.serve_one.Goals as goal
 

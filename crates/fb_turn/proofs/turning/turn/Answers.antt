@@ -3,7 +3,8 @@ use Rattle.fb_model.proofs.Ending.{keeps_bounds}
 use Rattle.fb_model.proofs.Admitting.{sound_after}
 use Rattle.fb_model.proofs.Starting.{stays_within_all}
 use Rattle.fb_device_state.specs.Machines.{device_in, cert_in, machine_of}
-use Rattle.fb_turn.specs.Turns.{Turn, Cut, Receives, Serves, events_of, answers_of}
+use Rattle.fb_turn.specs.Turns.{Receives, Serves}
+use Rattle.fb_model.specs.Turning.{Turn, Cut, events_of, answers_of}
 use Rattle.fb_device.proofs.Promised.{promised}
 use Rattle.fb_turn.proofs.Turned.{along, turn_down, turn_whole, cut_is}
 use Rattle.fb_turn.proofs.turning.turn.Goals as goal

@@ -3,7 +3,8 @@ use Rattle.std.proofs.Common.{◌∙◌, length, subst, refl, sym, ap, rules}
 use Rattle.std.specs.Prelude.{is_err}
 use Rattle.std.specs.Io.KnownBytes.{Appends}
 use Rattle.fb_device_state.specs.Machines.{device_in}
-use Rattle.fb_turn.specs.Turns.{IsTold, is_cut, sights_of}
+use Rattle.fb_turn.specs.Turns.{IsTold}
+use Rattle.fb_model.specs.Turning.{is_cut, sights_of}
 use Rattle.fbr_notices.specs.Sums.{TurnAt}
 use Rattle.fbr_serve.specs.Serving.{PrintsTurn, sight_lines, turn_lines}
 use Rattle.fbr_serve.specs.Recording.{RecordsTurn, sight_word}

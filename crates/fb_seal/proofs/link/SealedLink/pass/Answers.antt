@@ -1,7 +1,7 @@
 use Rattle.std.proofs.Common.{arith, ◌≡◌, ◌∙◌, List, ℕ, refl, subst}
 use Rattle.std.specs.Prelude.{nat_lt, nat_le, length}
 use Rattle.std.proofs.lemmas.Bool.{and_from, both_ways, lt-ltb, le-leb}
-use Rattle.fb_link.specs.Link.{Sent}
+use Rattle.fb_words.specs.Links.{Sent}
 use Rattle.fb_seal.specs.Seal.{sealed}
 use Rattle.fb_seal.specs.Passing.{Own}
 use Rattle.fb_seal.proofs.link.SealedLink.pass.Goals as goal
