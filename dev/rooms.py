@@ -5,6 +5,8 @@
     dev/rooms.py --write    writes it into that page, between its two marks
     dev/rooms.py --chain    prints the longest chain of crates, and below it those that no other crate stands on
     dev/rooms.py --uses     says which crates sources use that crates.txt does not list, and which it lists that none uses
+    dev/rooms.py --promises prints how many definitions stand behind each record of what is promised and the clauses that cite it, with their lines; it fails where
+                            these are more than MOST, or where no public call cites a record
     dev/rooms.py --pages    says which crates, names in them, edits and clauses that the pages name are not there, and which edits of the gate none names
 
 The head of a crate is the comment with which src/lib.rt or src/main.rt begins. Its first line says the room, and what the crate is for:
@@ -14,6 +16,8 @@ import itertools
 import pathlib
 import re
 import sys
+
+import chapters
 
 TOP = pathlib.Path(__file__).resolve().parent.parent
 ROOMS = {
@@ -26,6 +30,12 @@ ROOMS = {
     "program": "`fbr`",
     "cases": "what the gate asks the product",
 }
+# The records of what is promised, and the most lines of definitions, without blank ones, that may stand behind them and the clauses that cite them; and behind
+# all clauses of the public calls of these crates.
+PROMISES = TOP / "crates/fb_model/specs/Promises.antt"
+PROMISING = ("fb_verdict", "fb_find", "fb_device", "fb_world")
+MOST = 6_000, 7_500
+BOOK = ("fb_words", "fb_faults", "fb_model")
 MARKS = "<!-- rooms -->", "<!-- end of rooms -->"
 PAGES = ["README.md", "CONTRIBUTING.md", "tests/README.md", "examples/README.md", *(f"docs/{it.name}" for it in sorted(TOP.glob("docs/*.md")))]
 
@@ -126,6 +136,60 @@ def tell_uses(told):
     return bool(wrong)
 
 
+def clauses_of(path):
+    """The clauses of a source's functions, line by line, each with whether its function is public."""
+    public = False
+    for line in path.read_text().splitlines():
+        begins = re.match(r"\s*(?:(pub)(\([^)]*\))? )?fn \w", line)
+        if begins:
+            public = bool(begins[1]) and not begins[2]
+        elif re.match(r"\s+(?:ensures|requires|→) ?", line):
+            yield public, line
+
+
+def promised():
+    """The records of what is promised, each with the definitions that it is and that the clauses name which cite it, and with the crates of these; and the
+    definitions that any clause of a public call of those who promise names."""
+    book = chapters.read(PROMISES)
+    named = {it: {(PROMISES, book.defined[it])} for it in re.findall(r"^pub record (\w+)", PROMISES.read_text(), re.M)}
+    crates, others = {it: set() for it in named}, set()
+    for path in sorted(TOP.glob("crates/*/src/**/*.rt")):
+        crate = path.relative_to(TOP / "crates").parts[0]
+        for public, line in clauses_of(path):
+            reached = chapters.read(path).reached(line) if public else set()
+            if public and crate in PROMISING:
+                others |= reached
+            cited = re.match(r"\s+ensures \w* ?\{ (\w+)", line)
+            if public and cited and cited[1] in named:
+                named[cited[1]] |= reached
+                crates[cited[1]].add(crate)
+    return named, crates, others
+
+
+def parts(places):
+    """The lines of the book among definitions, those of the views of values, and the files."""
+    book = {it for it in places if it[0].relative_to(TOP / "crates").parts[0] in BOOK}
+    return [chapters.lines_of(book), chapters.lines_of(places - book), len({path for path, _ in places})]
+
+
+def tell_promises():
+    named, crates, others = promised()
+    print("| Record | Cited by calls of | Lines of the book | Lines of views of values | Files |")
+    print("|---|---|---|---|---|")
+    behind = {name: chapters.behind(places) for name, places in named.items()}
+    rows = [(f"`{name}`", ", ".join(f"`{it}`" for it in sorted(crates[name])), behind[name]) for name in named]
+    rows.append(("all five", "", set().union(*behind.values())))
+    rows.append(("all clauses of public calls", ", ".join(f"`{it}`" for it in PROMISING), chapters.behind(others)))
+    for name, by, places in rows:
+        print(f"| {name} | {by} | {' | '.join(f'{it:,}' for it in parts(places))} |")
+    wrong = [f"no call cites {name}" for name in named if not crates[name]]
+    for (name, _, places), most in zip(rows[-2:], MOST):
+        lines = chapters.lines_of(places)
+        wrong += [f"{name}: {lines:,} lines of definitions, more than {most:,}"] * (lines > most)
+    print("\n".join(wrong) or f"no more lines stand behind them than may: {MOST[0]:,}, and {MOST[1]:,} behind all clauses")
+    return bool(wrong)
+
+
 def plain(text):
     return re.sub(r"\s+", " ", text).strip()
 
@@ -172,6 +236,8 @@ def main(words):
         return tell_chain(crates)
     if words == ["--uses"]:
         return tell_uses(lines_listed())
+    if words == ["--promises"]:
+        return tell_promises()
     if words == ["--pages"]:
         return tell_pages(crates)
     if words == ["--write"]:
