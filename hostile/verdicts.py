@@ -75,6 +75,16 @@ def same_faults(lines, told):
     return lines == sorted(told, key=byte_in)
 
 
+def counted(said):
+    """The lines for people of how many dispatches the arrivals cause."""
+    for resource in said.get("resources", []):
+        for arrival in resource["arrivals"]:
+            if counts := arrival.get("dispatches"):
+                beside = "no room for others" if counts["alone"] else "others in between"
+                told = f"dispatches: {counts['all']} in all, {counts['in_a_row']} in a row, with {beside}; all has ended after {counts['end']} dispatches of {resource['path']}"
+                yield rf"^    {re.escape(arrival['path'])}: .*\n        {re.escape(told)}$"
+
+
 def compared(said, plain):
     """What the report says otherwise than the text for people."""
     first, _, rest = plain.stdout.decode().partition("\n")
@@ -85,6 +95,8 @@ def compared(said, plain):
     if said["command"] == "explain":
         found += [f"no note {it['name']}" for it in said.get("notes", []) if f"{it['place']['file']}:{it['place']['line']}:{it['place']['column']}: note: {it['says']} [{it['name']}]\n" not in rest]
         found += [] if len(said.get("notes", [])) == rest.count(": note: ") - (said.get("more_notes", 0) > 0) else ["other notes"]
+        lines = list(counted(said))
+        found += [f"no line {it}" for it in lines if not re.search(it, rest, re.M)] + ["other counts"] * (len(lines) != rest.count("        dispatches: "))
         if "place" in said and not rest.startswith(f"{said['place']['file']}:{said['place']['line']}:{said['place']['column']}\n"):
             found.append("another place")
     faults = {first, *re.findall(r"^refused .*", rest, re.M)} if "faults" in said else set()

@@ -16,3 +16,4 @@ pub use bounds::tell_bounds;
 pub use channels::{Ways, channels_behind, leaves_by_channel};
 pub use finding::{tell_found, tell_lead};
 pub use told::{meaning_parts, narrower_said, tell_diagnosis, tell_short};
+pub use turns::{Counted, Dispatches, dispatches_of};

@@ -1,4 +1,4 @@
-//! How many dispatches of its resource an arrival needs, told to people.
+//! How many dispatches of its resource an arrival needs.
 
 use fb_flat::{FlatResource, Leaf};
 use fb_turns::{Turns, is_alone};
@@ -8,40 +8,71 @@ use std::alloc::{AllocError, Global};
 
 /// A resource, how deep its queue is, and the counts of the system.
 #[derive(Clone, Copy)]
-pub(crate) struct Counted<'a> {
-    pub(crate) resource: &'a FlatResource,
-    pub(crate) depth: u64,
-    pub(crate) turns: Option<&'a Turns>,
+pub struct Counted<'a> {
+    /// The resource.
+    pub resource: &'a FlatResource,
+    /// The depth of its queue.
+    pub depth: u64,
+    /// The counts, where some were found.
+    pub turns: Option<&'a Turns>,
 }
 
-// Writes how many dispatches an arrival causes, in all and in its longest chain.
-fn put_counts(dispatches: u64, generations: u64, writing: &mut Writing) {
-    writing.put("        dispatches: ");
-    writing.show(&dispatches);
-    writing.put(" in all, ");
-    writing.show(&generations);
-    writing.put(" in a row, ");
+/// How many dispatches one event at an arrival causes.
+#[derive(Clone, Copy)]
+pub struct Dispatches {
+    /// All of them.
+    pub all: u64,
+    /// Those of the longest chain, each caused by the one before.
+    pub in_a_row: u64,
+    /// Whether nothing else has room in the queue beside it.
+    pub is_alone: bool,
+    /// After how many dispatches of the resource all has ended.
+    pub end: u64,
 }
 
-// Writes after how many dispatches of the resource all has ended that an arrival causes.
-fn put_end(
+/// How many dispatches one event at an arrival of a leaf causes; `None` where no counts were found.
+pub fn dispatches_of(
+    alloc: Global,
+    verified: &Verified,
     counted: Counted<'_>,
-    dispatches: u64,
-    generations: u64,
-    is_alone: bool,
-    writing: &mut Writing,
-) {
-    let end = if is_alone {
-        writing.put("with no room for others");
-        dispatches
-    } else {
-        writing.put("with others in between");
-        generations.saturating_mul(counted.depth)
+    leaf: &Leaf,
+    event: &str,
+) -> Result<Option<Dispatches>, AllocError> {
+    let Some(turns) = counted.turns else {
+        return Ok(None);
     };
+    let path = leaf.path.as_str();
+    let all = turns.dispatches(alloc, path, event)?;
+    let in_a_row = turns.generations(alloc, path, event)?;
+    let is_alone = is_alone(alloc, verified, counted.resource, leaf)?;
+    let end = if is_alone {
+        all
+    } else {
+        in_a_row.saturating_mul(counted.depth)
+    };
+    Ok(Some(Dispatches {
+        all,
+        in_a_row,
+        is_alone,
+        end,
+    }))
+}
+
+// Writes the counts of an arrival.
+fn put_dispatches(resource: &FlatResource, dispatches: Dispatches, writing: &mut Writing) {
+    writing.put("        dispatches: ");
+    writing.show(&dispatches.all);
+    writing.put(" in all, ");
+    writing.show(&dispatches.in_a_row);
+    writing.put(if dispatches.is_alone {
+        " in a row, with no room for others"
+    } else {
+        " in a row, with others in between"
+    });
     writing.put("; all has ended after ");
-    writing.show(&end);
+    writing.show(&dispatches.end);
     writing.put(" dispatches of ");
-    writing.put(counted.resource.path.as_str());
+    writing.put(resource.path.as_str());
     writing.put("\n");
 }
 
@@ -55,14 +86,8 @@ pub(crate) fn tell_turns(
     event: &str,
     writing: &mut Writing,
 ) -> Result<(), AllocError> {
-    let Some(turns) = counted.turns else {
-        return Ok(());
-    };
-    let path = leaf.path.as_str();
-    let dispatches = turns.dispatches(alloc, path, event)?;
-    let generations = turns.generations(alloc, path, event)?;
-    let is_alone = is_alone(alloc, verified, counted.resource, leaf)?;
-    put_counts(dispatches, generations, writing);
-    put_end(counted, dispatches, generations, is_alone, writing);
+    if let Some(dispatches) = dispatches_of(alloc, verified, counted, leaf, event)? {
+        put_dispatches(counted.resource, dispatches, writing);
+    }
     Ok(())
 }

@@ -4,9 +4,10 @@ use crate::ends::{put_ends, type_list};
 use crate::finding::kind_name;
 use fb_cert::{Amount, Certificate};
 use fb_flat::{FlatResource, Leaf, joined};
+use fb_turns::{Turns, count_turns};
 use fb_verified::Verified;
 use fb_words::Format;
-use fbr_explain::{Ways, channels_behind, leaves_by_channel};
+use fbr_explain::{Counted, Ways, channels_behind, dispatches_of, leaves_by_channel};
 use fbr_leaves::{admitted, channel_of, leaves_in, numbered, received_from};
 use fbr_needs::{Arrival, Queue, queue_in};
 use fbr_objects::{List, Object};
@@ -83,11 +84,32 @@ fn leaf_of<'a, 'p>(ways: Ways<'a>, path: &'p str) -> Option<(&'a Leaf, &'p str)>
     Some((ways.leaves.get(*number).copied()?, event))
 }
 
+// How many dispatches one event at an arrival of a leaf causes, where that is known.
+fn put_dispatches(
+    alloc: Global,
+    verified: &Verified,
+    counted: Counted<'_>,
+    leaf: &Leaf,
+    event: &str,
+    object: &mut Object,
+) -> Result<(), AllocError> {
+    if let Some(dispatches) = dispatches_of(alloc, verified, counted, leaf, event)? {
+        let mut counts = Object::new(alloc);
+        counts.number("all", dispatches.all);
+        counts.number("in_a_row", dispatches.in_a_row);
+        counts.flag("alone", dispatches.is_alone);
+        counts.number("end", dispatches.end);
+        object.object("dispatches", counts);
+    }
+    Ok(())
+}
+
 // What one event at an arrival causes at most, and how many of it the queue takes at once.
 fn arrival_object(
     alloc: Global,
     verified: &Verified,
     ways: Ways<'_>,
+    counted: Counted<'_>,
     queue: &Queue<'_>,
     arrival: &Arrival,
 ) -> Result<Object, AllocError> {
@@ -100,8 +122,11 @@ fn arrival_object(
     object.number("places", arrival.places);
     object.number("fits", queue.fitting(arrival));
     object.maybe_number("far", far);
-    if let (Some(_), Some((leaf, event))) = (far, leaf_of(ways, path)) {
-        put_ways(alloc, ways, leaf, event, &mut object)?;
+    if let Some((leaf, event)) = leaf_of(ways, path) {
+        if far.is_some() {
+            put_ways(alloc, ways, leaf, event, &mut object)?;
+        }
+        put_dispatches(alloc, verified, counted, leaf, event, &mut object)?;
     }
     Ok(object)
 }
@@ -111,8 +136,14 @@ fn resource_object(
     alloc: Global,
     verified: &Verified,
     resource: &FlatResource,
+    turns: Option<&Turns>,
 ) -> Result<Object, AllocError> {
     let queue = queue_in(alloc, verified.certificate(), resource)?;
+    let counted = Counted {
+        resource,
+        depth: queue.depth,
+        turns,
+    };
     let leaves = leaves_in(alloc, resource)?;
     let numbers = numbered(alloc, &leaves)?;
     let ways = Ways {
@@ -121,7 +152,8 @@ fn resource_object(
     };
     let mut list = List::new(alloc);
     for arrival in &queue.arrivals {
-        list.object(arrival_object(alloc, verified, ways, &queue, arrival)?);
+        let object = arrival_object(alloc, verified, ways, counted, &queue, arrival)?;
+        list.object(object);
     }
     let mut object = Object::new(alloc);
     object.text("path", queue.path);
@@ -133,10 +165,12 @@ fn resource_object(
 
 // All resources.
 fn resource_list(alloc: Global, verified: &Verified) -> Result<List, AllocError> {
+    let turns = count_turns(alloc, verified)?;
     let mut list = List::new(alloc);
     for device in &verified.flat().devices {
         for resource in &device.resources {
-            list.object(resource_object(alloc, verified, resource)?);
+            let object = resource_object(alloc, verified, resource, turns.as_ref())?;
+            list.object(object);
         }
     }
     Ok(list)
