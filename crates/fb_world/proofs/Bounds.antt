@@ -79,6 +79,7 @@ reached_told v w c r =
 
 -- so FAR is kept
 pub reached_kept : (v : Verified) (w : World) → IsChecked v → IsReached (system_in v) (checks.certificate_in v) w → KeepsFar (system_in v) (checks.certificate_in v) w
+unfolding reached_told
 reached_kept v w c r =
     record {
       told = reached_told v w c r;
