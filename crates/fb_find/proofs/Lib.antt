@@ -1,4 +1,4 @@
-mod Nodes
+pub mod Nodes
 mod Lists
 mod Clearing
 mod Crowding
@@ -7,7 +7,7 @@ mod Resources
 mod Adding
 mod Networking
 mod Making
-mod Given
+pub mod Given
 mod Tabled
 pub mod Taking
 pub mod Promised

@@ -1,11 +1,9 @@
 -- Numbers that meet the demands of a system, each event with its own dispatch, are counts that fit.
-use Rattle.std.proofs.Common.{◌≡◌, ℕ, ◌+◌, ◌≤◌, Bool, true, false, cond, List, [], ◌∷◌, ◌++◌, map, length, slice_index, Some, None, refl, sym, ◌∙◌, ap, subst, arith}
-use Rattle.std.specs.Prelude.{nat_lt}
+use Rattle.std.proofs.Common.{◌≡◌, ℕ, ◌+◌, ◌≤◌, Bool, true, false, cond, List, [], ◌∷◌, ◌++◌, map, Some, None, refl, sym, ◌∙◌, ap, subst, arith}
 use Rattle.std.specs.List.{AllByRecursion, flat_map}
 use Rattle.std.specs.Str.{bytes_eq}
-use Rattle.std.proofs.lemmas.Bool.{le-ltb}
 use Rattle.fb_model.specs.Names.{Name, Place, at_place}
-use Rattle.fb_model.specs.System.{Action, State, Transition, Block, Service, Device, System, Input, Output, Publish, Subscribe, Delay, Cycle, Restart}
+use Rattle.fb_model.specs.System.{Action, State, Transition, Block, Service, Device, Input, Output, Publish, Subscribe, Delay, Cycle, Restart}
 use Rattle.fb_model.specs.Services.{service_events, can_emit, init}
 use Rattle.fb_model.specs.Wires.{Kind, Charted, Serviced, Leaf, leaves}
 use Rattle.fb_model.specs.Charts.{actions_of, emission}
@@ -15,19 +13,15 @@ use Rattle.fb_model.proofs.Placed.{all_left, all_right}
 use Rattle.fb_model.specs.Demands.{Node, state, event, channel, Demand, Ground, emitted, of_state, of_free, free_demand, of_crossing, crossing_demand, of_input, of_chart, sent, of_dispatch, of_kind, bare, bare_demands}
 use Rattle.fb_model_turns.specs.Turns.{Counts, Join, joined, caused, outputs_of, StateCounts, FreeCounts, CrossingCounts, InputCounts, ChartCounts, ServiceCounts, KindCounts, DispatchesFit}
 use Rattle.fb_model_turns.proofs.Joins.{IsJoin, joined-append, caused-append}
-use Rattle.fb_find_laws.specs.Nodes.{Numbered, by_number, number, index_in, written}
-use Rattle.fb_find_demands.specs.declared.numbered.Numbering.{Numbering}
-use Rattle.fb_find_demands.specs.Rights.{numbers_of, numbered}
-use Rattle.fb_types_blocks.specs.Views.{names_of}
-use Rattle.fb_turns.specs.Counting.{own_of, Pays, counts_by, AllFit}
+use Rattle.fb_turns.specs.Counting.{counts_by}
 
 -- ---- lists
 
-all_flat : {X Y : Type 0} (P : Y → Type 0) (f : X → List Y) (xs : List X) → AllByRecursion P (flat_map f xs) → AllByRecursion (λ x. AllByRecursion P (f x)) xs
+pub all_flat : {X Y : Type 0} (P : Y → Type 0) (f : X → List Y) (xs : List X) → AllByRecursion P (flat_map f xs) → AllByRecursion (λ x. AllByRecursion P (f x)) xs
 all_flat P f [] h = tt
 all_flat P f (x ∷ xs) h = (all_left P (f x) (flat_map f xs) h, all_flat P f xs (all_right P (f x) (flat_map f xs) h))
 
-all_mapped : {X Y : Type 0} (P : Y → Type 0) (f : X → Y) (xs : List X) → AllByRecursion P (map f xs) → AllByRecursion (λ x. P (f x)) xs
+pub all_mapped : {X Y : Type 0} (P : Y → Type 0) (f : X → Y) (xs : List X) → AllByRecursion P (map f xs) → AllByRecursion (λ x. P (f x)) xs
 all_mapped P f [] h = tt
 all_mapped P f (x ∷ xs) h = (h.0, all_mapped P f xs h.1)
 
@@ -42,14 +36,14 @@ neither false xs h = h
 -- ---- demands of nodes
 
 -- an event counts its own dispatch
-abbrev own_node : Node → ℕ
+abbrev pub own_node : Node → ℕ
 own_node (state p) = 0
 own_node (event p) = 1
 own_node (channel c) = 0
 
 module _ (join : Join) (is : IsJoin join) (x : Node → ℕ) where
   -- the number of a node counts its own dispatch, and what follows
-  abbrev IsCounted : Demand → Type 0
+  abbrev pub IsCounted : Demand → Type 0
   IsCounted d = own_node d.node + joined join x d.terms ≤ x d.node
 
   module _ (targets : Name → List Place) where
@@ -136,41 +130,13 @@ module _ (join : Join) (is : IsJoin join) (x : Node → ℕ) where
         all_weaker (λ e. AllByRecursion IsCounted (of_dispatch (bare leaf) service e)) (ServiceCounts join counts leaf.targets leaf.path service) (service_events service) (service_counts service)
         (all_flat IsCounted (of_dispatch (bare leaf) service) (service_events service) h)
 
-  leaves_count : (all : List Leaf) → AllByRecursion IsCounted (bare_demands all) → DispatchesFit join (counts_by x) all
+  pub leaves_count : (all : List Leaf) → AllByRecursion IsCounted (bare_demands all) → DispatchesFit join (counts_by x) all
   leaves_count all h =
       all_weaker (λ leaf. AllByRecursion IsCounted (of_kind (bare leaf) leaf.kind)) (λ leaf. KindCounts join (counts_by x) leaf.targets leaf.path leaf.kind) all (λ leaf k. kind_counts leaf leaf.kind k)
       (all_flat IsCounted (λ leaf. of_kind (bare leaf) leaf.kind) all h)
 
-  devices_fit : (ds : List Device) → DispatchesFit join (counts_by x) (all_leaves ds) → AllByRecursion (λ (d : Device). DispatchesFit join (counts_by x) (leaves d)) ds
+  pub devices_fit : (ds : List Device) → DispatchesFit join (counts_by x) (all_leaves ds) → AllByRecursion (λ (d : Device). DispatchesFit join (counts_by x) (leaves d)) ds
   devices_fit [] h = tt
   devices_fit (d ∷ ds) h =
       let K = λ (leaf : Leaf). KindCounts join (counts_by x) leaf.targets leaf.path leaf.kind in
       (all_left K (leaves d) (all_leaves ds) h, devices_fit ds (all_right K (leaves d) (all_leaves ds) h))
-
--- ---- numbers
-
-module _ (join : Join) (is : IsJoin join) (n : Numbering) (numbers : List ℕ) where
-  abbrev at_node : Node → ℕ
-  at_node v = slice_index numbers (numbers_of n v)
-
-  -- events have their numbers behind those of states
-  own_least : (v : Node) → own_node v ≤ own_of (length (names_of n.states)) (numbers_of n v)
-  own_least (state p) = omega arith
-  own_least (channel c) = omega arith
-  own_least (event p) =
-      let behind : nat_lt (length (names_of n.states) + index_in (names_of n.events) (written p)) (length (names_of n.states)) ≡ false = le-ltb (length (names_of n.states) + index_in (names_of n.events) (written p)) (length (names_of n.states)) (omega arith) in
-      subst (λ b. 1 ≤ cond b 0 1) (sym behind) (omega arith)
-
-  pays_counts : (d : Demand) → Pays join (length (names_of n.states)) numbers (by_number (numbers_of n) d) → IsCounted join is at_node d
-  pays_counts d h = omega (arith, h, own_least d.node, joined-map join (slice_index numbers) (numbers_of n) d.terms)
-
-  all_count : (ds : List Demand) → AllByRecursion (Pays join (length (names_of n.states)) numbers) (numbered n ds) → AllByRecursion (IsCounted join is at_node) ds
-  all_count ds h =
-      all_weaker (λ d. Pays join (length (names_of n.states)) numbers (by_number (numbers_of n) d)) (IsCounted join is at_node) ds pays_counts
-      (all_mapped (Pays join (length (names_of n.states)) numbers) (by_number (numbers_of n)) ds h)
-
-  -- numbers that pay for all demands are counts that fit
-  pub all_fit : (s : System) (rights : List Numbered) → rights ≡ numbered n (bare_demands (all_leaves s.devices)) → AllByRecursion (Pays join (length (names_of n.states)) numbers) rights → AllFit join n numbers s
-  all_fit s rights e h =
-      devices_fit join is at_node s.devices
-      (leaves_count join is at_node (all_leaves s.devices) (all_count (bare_demands (all_leaves s.devices)) (subst (AllByRecursion (Pays join (length (names_of n.states)) numbers)) e h)))

@@ -1,22 +1,21 @@
 -- When numbers of states and events are counts of dispatches, in the terms of the book.
 -- This project's profile.
-use Rattle.std.specs.Prelude.{ℕ, ◌+◌, ◌≤◌, nat_lt, List, slice_index, if◌then◌else◌}
+use Rattle.std.specs.Prelude.{ℕ, nat_lt, List, [], ◌∷◌, map, slice_index, None, if◌then◌else◌}
 use Rattle.std.specs.List.{AllByRecursion}
 use Rattle.fb_model.specs.System.{System, Device}
 use Rattle.fb_model.specs.Wires.{leaves}
+use Rattle.fb_model.specs.Certificates.{Certificate, Fits}
 use Rattle.fb_model.specs.Demands.{Node, state, event}
+use Rattle.fb_model_texts.specs.Small.{AreSmall}
 use Rattle.fb_model_turns.specs.Turns as turns
-use Rattle.fb_model_turns.specs.Turns.{Counts, DispatchesFit, added, largest, joined}
+use Rattle.fb_model_turns.specs.Turns.{Counts, DispatchesFit, added, largest}
+use Rattle.fb_flat.specs.declared.flat.FlatDevice.{FlatDevice}
 use Rattle.fb_find_laws.specs.Nodes.{Numbered}
 use Rattle.fb_find_demands.specs.declared.numbered.Numbering.{Numbering}
 use Rattle.fb_find_demands.specs.Rights.{numbers_of}
-use Rattle.fb_turns.specs.declared.join.Join.{Join}
-use Rattle.fb_turns.specs.declared.join.Join.TheVariants.{Added, Largest}
+use Rattle.fb_find.specs.Given.{IsNumbered}
+use Rattle.fb_find.specs.Columns.{FulfilsAll}
 use Rattle.fb_turns.specs.declared.turns.Turns.{Turns}
-
-abbrev pub join_of : Join → turns.Join
-join_of Added = added
-join_of Largest = largest
 
 -- ---- numbers of nodes
 
@@ -28,9 +27,30 @@ number_at numbers node = slice_index numbers node
 abbrev pub own_of : ℕ → ℕ → ℕ
 own_of states node = if nat_lt node states then 0 else 1
 
--- the number of a node counts its own dispatch, and what follows from all terms of a demand
-abbrev pub Pays : turns.Join → ℕ → List ℕ → Numbered → Type 0
-Pays join states numbers r = own_of states r.node + joined join (slice_index numbers) r.terms ≤ slice_index numbers r.node
+-- ---- what is asked of them
+
+-- a node counts its own dispatch, and all terms together
+abbrev pub all_right : ℕ → Numbered → Numbered
+all_right states r = record { node = r.node; constant = own_of states r.node; terms = r.terms }
+
+-- a node counts its own dispatch, and one term
+abbrev pub term_right : ℕ → ℕ → ℕ → Numbered
+term_right states node term = record { node = node; constant = own_of states node; terms = term ∷ [] }
+
+-- a node counts its own dispatch, and with it each of the terms
+abbrev pub chain_rights : ℕ → Numbered → List Numbered
+chain_rights states r = record { node = r.node; constant = own_of states r.node; terms = [] } ∷ map (term_right states r.node) r.terms
+
+-- a certificate that a text says fits the system
+pub record HasFit (s : System) (cert : Certificate) : Type 0 where
+  pub fits : Fits s cert
+  pub small : AreSmall cert
+
+-- and the order serves all that is asked of nodes, which have these numbers
+pub record IsCountable (devices : List FlatDevice) (n : Numbering) (order : List ℕ) (s : System) (cert : Certificate) : Type 0 where
+  pub numbered : IsNumbered None devices n s
+  pub serves : FulfilsAll None n s order
+  pub has : HasFit s cert
 
 -- ---- the book's counts
 

@@ -1,16 +1,18 @@
 //! Counts of dispatches of a verified system.
 
-ghost use Rattle.std.specs.Prelude.{◌≡◌, None, IfOk, IfSome};
+ghost use Rattle.std.specs.Prelude.{◌≡◌, None, IfOk};
 ghost use Rattle.fb_model.specs.Names.{at_place};
 ghost use Rattle.fb_model.specs.System.{System};
+ghost use Rattle.fb_model.specs.Certificates as book;
 ghost use Rattle.fb_model.specs.CertificateText.{names_in};
+ghost use Rattle.fb_model_turns.specs.Turns.{added, largest};
 ghost use Rattle.fb_verified.specs.Checked.{system_in};
-ghost use Rattle.fb_find_demands.specs.Shown.{IsNumbered};
-ghost use Rattle.fb_turns.specs.Counting.{all_in, longest_in, number_at, AreCounts};
+ghost use Rattle.fb_find.specs.Given.{IsNumbered};
+ghost use Rattle.fb_turns.specs.Counting.{all_in, longest_in, number_at, AllFit, AreCounts, HasFit, IsCountable};
 
-use crate::computed::{Computed, compute};
-use crate::met::both_fit;
-use fb_find_demands::{Numbering, numbering};
+use crate::demand::{all_demands, chain_demands};
+use crate::least::{least, ordered};
+use fb_find_demands::{Numbering, numbering, plain_rights};
 use fb_flat::Flat;
 use fb_verified::Verified;
 use std::alloc::{AllocError, Global};
@@ -51,29 +53,54 @@ impl Turns {
     }
 }
 
-// Both counts of a system whose nodes have these numbers, where they fit.
-fn counted(alloc: Global, flat: &Flat, numbering: Numbering) -> Result<Option<Turns>, AllocError>
-    requires { (s : System) × IsNumbered None flat.now.devices.items numbering s }
-    ensures { (s : System) → IsNumbered None flat.now.devices.items numbering s → IfOk result (λ o. IfSome o (AreCounts s)) }
+// The counts of all dispatches, by the numbers of nodes.
+fn all_counts(
+    alloc: Global,
+    flat: &Flat,
+    numbering: &Numbering,
+    order: &[usize],
+) -> Result<Vec<u64>, AllocError>
+    requires { (s : System) × (cert : book.Certificate) × IsCountable flat.now.devices.items numbering.now order.now s cert }
+    ensures { (s : System) (cert : book.Certificate) → IsCountable flat.now.devices.items numbering.now order.now s cert → IfOk result (λ v. AllFit added numbering.now v.items s) }
 {
-    let Some(Computed { all, longest }) = compute(alloc, flat, &numbering)? else {
-        return Ok(None);
-    };
-    let fits = both_fit(alloc, flat, &numbering, all.as_slice(), longest.as_slice())?;
-    if fits {
-        Ok(Some(Turns {
-            numbering,
-            all,
-            longest,
-        }))
-    } else {
-        Ok(None)
-    }
+    let asked = plain_rights(alloc, numbering, 1, flat)?;
+    let rights = all_demands(alloc, numbering.states.len(), asked.as_slice())?;
+    least(alloc, numbering, order, rights)
 }
 
-/// Counts of dispatches that fit each device of a verified system; or none, where none are found.
-pub fn count_turns(alloc: Global, verified: &Verified) -> Result<Option<Turns>, AllocError>
-    ensures { IfOk result (λ o. IfSome o (AreCounts (system_in verified.now))) }
+// And those of the longest chains.
+fn chain_counts(
+    alloc: Global,
+    flat: &Flat,
+    numbering: &Numbering,
+    order: &[usize],
+) -> Result<Vec<u64>, AllocError>
+    requires { (s : System) × (cert : book.Certificate) × IsCountable flat.now.devices.items numbering.now order.now s cert }
+    ensures { (s : System) (cert : book.Certificate) → IsCountable flat.now.devices.items numbering.now order.now s cert → IfOk result (λ v. AllFit largest numbering.now v.items s) }
+{
+    let asked = plain_rights(alloc, numbering, 1, flat)?;
+    let rights = chain_demands(alloc, numbering.states.len(), asked.as_slice())?;
+    least(alloc, numbering, order, rights)
+}
+
+// Both counts of a system whose nodes have these numbers, and that a certificate fits.
+fn counted(alloc: Global, flat: &Flat, numbering: Numbering) -> Result<Turns, AllocError>
+    requires { (s : System) × (cert : book.Certificate) × IsNumbered None flat.now.devices.items numbering s × HasFit s cert }
+    ensures { (s : System) (cert : book.Certificate) → IsNumbered None flat.now.devices.items numbering s → HasFit s cert → IfOk result (AreCounts s) }
+{
+    let order = ordered(alloc, flat, &numbering)?;
+    let all = all_counts(alloc, flat, &numbering, order.as_slice())?;
+    let longest = chain_counts(alloc, flat, &numbering, order.as_slice())?;
+    Ok(Turns {
+        numbering,
+        all,
+        longest,
+    })
+}
+
+/// The counts of dispatches of a verified system.
+pub fn count_turns(alloc: Global, verified: &Verified) -> Result<Turns, AllocError>
+    ensures { IfOk result (AreCounts (system_in verified.now)) }
 {
     verified.fits();
     let flat = verified.flat();

@@ -137,7 +137,7 @@ fn tell_resource(
     alloc: Global,
     verified: &Verified,
     resource: &FlatResource,
-    turns: Option<&Turns>,
+    turns: &Turns,
     writing: &mut Writing,
 ) -> Result<(), AllocError> {
     let queue = queue_in(alloc, verified.certificate(), resource)?;
@@ -177,7 +177,7 @@ pub fn tell_bounds(
     let turns = count_turns(alloc, verified)?;
     for device in &verified.flat().devices {
         for resource in &device.resources {
-            tell_resource(alloc, verified, resource, turns.as_ref(), writing)?;
+            tell_resource(alloc, verified, resource, &turns, writing)?;
         }
     }
     tell_channels(alloc, verified, writing)?;

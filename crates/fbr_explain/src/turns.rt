@@ -13,8 +13,8 @@ pub struct Counted<'a> {
     pub resource: &'a FlatResource,
     /// The depth of its queue.
     pub depth: u64,
-    /// The counts, where some were found.
-    pub turns: Option<&'a Turns>,
+    /// The counts.
+    pub turns: &'a Turns,
 }
 
 /// How many dispatches one event at an arrival causes.
@@ -30,32 +30,29 @@ pub struct Dispatches {
     pub end: u64,
 }
 
-/// How many dispatches one event at an arrival of a leaf causes; `None` where no counts were found.
+/// How many dispatches one event at an arrival of a leaf causes.
 pub fn dispatches_of(
     alloc: Global,
     verified: &Verified,
     counted: Counted<'_>,
     leaf: &Leaf,
     event: &str,
-) -> Result<Option<Dispatches>, AllocError> {
-    let Some(turns) = counted.turns else {
-        return Ok(None);
-    };
+) -> Result<Dispatches, AllocError> {
     let path = leaf.path.as_str();
-    let all = turns.dispatches(alloc, path, event)?;
-    let in_a_row = turns.generations(alloc, path, event)?;
+    let all = counted.turns.dispatches(alloc, path, event)?;
+    let in_a_row = counted.turns.generations(alloc, path, event)?;
     let is_alone = is_alone(alloc, verified, counted.resource, leaf)?;
     let end = if is_alone {
         all
     } else {
         in_a_row.saturating_mul(counted.depth)
     };
-    Ok(Some(Dispatches {
+    Ok(Dispatches {
         all,
         in_a_row,
         is_alone,
         end,
-    }))
+    })
 }
 
 // Writes the counts of an arrival.
@@ -77,7 +74,7 @@ fn put_dispatches(resource: &FlatResource, dispatches: Dispatches, writing: &mut
 }
 
 /// Writes how many dispatches one event at an arrival of a leaf causes, whether others have room beside it, and after how many dispatches of the resource
-/// all has ended that it causes; nothing where no counts were found.
+/// all has ended that it causes.
 pub(crate) fn tell_turns(
     alloc: Global,
     verified: &Verified,
@@ -86,8 +83,7 @@ pub(crate) fn tell_turns(
     event: &str,
     writing: &mut Writing,
 ) -> Result<(), AllocError> {
-    if let Some(dispatches) = dispatches_of(alloc, verified, counted, leaf, event)? {
-        put_dispatches(counted.resource, dispatches, writing);
-    }
+    let dispatches = dispatches_of(alloc, verified, counted, leaf, event)?;
+    put_dispatches(counted.resource, dispatches, writing);
     Ok(())
 }

@@ -84,7 +84,7 @@ fn leaf_of<'a, 'p>(ways: Ways<'a>, path: &'p str) -> Option<(&'a Leaf, &'p str)>
     Some((ways.leaves.get(*number).copied()?, event))
 }
 
-// How many dispatches one event at an arrival of a leaf causes, where that is known.
+// How many dispatches one event at an arrival of a leaf causes.
 fn put_dispatches(
     alloc: Global,
     verified: &Verified,
@@ -93,14 +93,13 @@ fn put_dispatches(
     event: &str,
     object: &mut Object,
 ) -> Result<(), AllocError> {
-    if let Some(dispatches) = dispatches_of(alloc, verified, counted, leaf, event)? {
-        let mut counts = Object::new(alloc);
-        counts.number("all", dispatches.all);
-        counts.number("in_a_row", dispatches.in_a_row);
-        counts.flag("alone", dispatches.is_alone);
-        counts.number("end", dispatches.end);
-        object.object("dispatches", counts);
-    }
+    let dispatches = dispatches_of(alloc, verified, counted, leaf, event)?;
+    let mut counts = Object::new(alloc);
+    counts.number("all", dispatches.all);
+    counts.number("in_a_row", dispatches.in_a_row);
+    counts.flag("alone", dispatches.is_alone);
+    counts.number("end", dispatches.end);
+    object.object("dispatches", counts);
     Ok(())
 }
 
@@ -136,7 +135,7 @@ fn resource_object(
     alloc: Global,
     verified: &Verified,
     resource: &FlatResource,
-    turns: Option<&Turns>,
+    turns: &Turns,
 ) -> Result<Object, AllocError> {
     let queue = queue_in(alloc, verified.certificate(), resource)?;
     let counted = Counted {
@@ -169,7 +168,7 @@ fn resource_list(alloc: Global, verified: &Verified) -> Result<List, AllocError>
     let mut list = List::new(alloc);
     for device in &verified.flat().devices {
         for resource in &device.resources {
-            let object = resource_object(alloc, verified, resource, turns.as_ref())?;
+            let object = resource_object(alloc, verified, resource, &turns)?;
             list.object(object);
         }
     }
