@@ -2,7 +2,8 @@
 """Tells what each crate of a gate cost, in processor seconds, as a table beside its sizes:
 
   dev/gate_times.py [FOLDER]          runs the gate in a checkout (without it, this one), and prints the table; what the gate says goes to standard error
-  dev/gate_times.py --lines [FOLDER]  the same with a line for each crate in place of the table, as `.ci/run` has it
+  dev/gate_times.py --lines [FOLDER]  the same with a line for each crate in place of the table, as `.ci/run` has it: as soon as it is proved, and at the
+                                      end again, if its edits were tried or its machine code was made since
   dev/gate_times.py --told LOG.. [FOLDER]         prints the table from such lines, wherever they are in one LOG; or in several, of
                                                   one gate that was cut off and begun again: of each crate its most seconds, and the minutes of all
   dev/gate_times.py --watch PID FILE  keeps in FILE, as JSON, what the processes below a gate that runs already have taken, until it ends
@@ -103,8 +104,8 @@ def record_of(seen, whole, lanes):
     return {"whole": whole, "crates": spent, "lanes": lanes_of(lanes)}
 
 
-def watch(gate, file=None):
-    """Looks at a gate until it ends, and returns the record. It is kept in a file on the way."""
+def watch(gate, file=None, tell=None):
+    """Looks at a gate until it ends, and returns the record. It is kept in a file on the way, or told."""
     seen, whole, kept, lanes = {}, {}, 0, []
     while True:
         try:
@@ -116,6 +117,9 @@ def watch(gate, file=None):
         lanes.append((time.monotonic(), frozenset(look(seen, gate))))
         if file and time.monotonic() > kept + 10:
             keep(file, record_of(seen, whole, lanes))
+            kept = time.monotonic()
+        if tell and time.monotonic() > kept + 10:
+            tell(record_of(seen, whole, lanes))
             kept = time.monotonic()
         time.sleep(PAUSE)
     if file:
@@ -170,10 +174,33 @@ def minutes(record):
     return [round(record["whole"][kind] / 60) for kind in ("processor", "clock")]
 
 
-def lines(record, said, folder, passed):
+def line_of(row, failed):
+    crate, functions, proof, tests, mutants, edits, machine = row
+    return f"gate: {crate} {'failed' if crate in failed else 'passed'}: {functions} functions, proof {proof} s, tests {tests} s, {mutants} mutants refused {edits} s, machine code {machine} s"
+
+
+def proved_by(said):
+    """The crates that a gate has proved so far, and did not find kept."""
+    return {it[1] for it in map(re.compile(r"rt: (\w+) proved$").match, said) if it}
+
+
+def lines_so_far(said, folder, shown):
+    """What tells the line of each crate as soon as it is proved: a gate that is cut off has told what it did."""
+    def tell(record):
+        proved = proved_by(list(said)) - set(shown)
+        for row in rows_of(record, list(said), folder) if proved else []:
+            if row[0] in proved:
+                shown[row[0]] = line_of(row, ())
+                print(shown[row[0]], flush=True)
+
+    return tell
+
+
+def lines(record, said, folder, passed, shown):
     failed = {crate for line in said if line.startswith("rt: FAILED:") for crate in line.split()[2:]}
-    for crate, functions, proof, tests, mutants, edits, machine in rows_of(record, said, folder):
-        print(f"gate: {crate} {'failed' if crate in failed else 'passed'}: {functions} functions, proof {proof} s, tests {tests} s, {mutants} mutants refused {edits} s, machine code {machine} s")
+    for row in rows_of(record, said, folder):
+        if shown.get(row[0]) != line_of(row, failed):
+            print(line_of(row, failed))
     processor, clock = minutes(record)
     lanes = record["lanes"]
     print(f"gate: {'passed' if passed else 'failed'} in {processor} processor minutes, {clock} minutes by the clock", end="; ")
@@ -193,7 +220,7 @@ def told_rows(runs, folder):
 
 
 def gate(folder, in_lines):
-    said = []
+    said, shown = [], {}
     job = subprocess.Popen([".ci/rt", "ci"], cwd=folder, stdin=subprocess.DEVNULL, stdout=subprocess.PIPE, stderr=subprocess.STDOUT, text=True, errors="replace")
 
     def listen():
@@ -203,11 +230,11 @@ def gate(folder, in_lines):
 
     listener = threading.Thread(target=listen)
     listener.start()
-    record = watch(job.pid)
+    record = watch(job.pid, tell=lines_so_far(said, folder, shown) if in_lines else None)
     listener.join()
     status = job.wait()
     if in_lines:
-        lines(record, said, folder, not status)
+        lines(record, said, folder, not status, shown)
     else:
         table(rows_of(record, said, folder), minutes(record), folder)
     return status
