@@ -5,23 +5,31 @@ use Rattle.std.specs.List.{AllByRecursion, flat_map, sum_by}
 use Rattle.std.proofs.Math.Nat.{max-le}
 use Rattle.std.proofs.lemmas.List.Sums.{sum_by-cons}
 use Rattle.std.proofs.lemmas.List.{map-append}
+use Rattle.fb_model.specs.Names.{Name, Place}
 use Rattle.fb_model.specs.System.{System}
 use Rattle.fb_model.specs.Certificates.{all_leaves}
-use Rattle.fb_model.specs.Demands.{Node, Demand, IsMet, bare_demands}
+use Rattle.fb_model.specs.CertificateText.{place_of}
+use Rattle.fb_model.specs.Demands.{Node, state, event, channel, Demand, IsMet, bare_demands}
 use Rattle.fb_model.specs.Columns.{MeetAll}
 use Rattle.fb_model.proofs.Placed.{all_left, all_right}
-use Rattle.fb_model_turns.specs.Turns.{joined, added, largest}
+use Rattle.fb_model_turns.specs.Turns.{Counts, joined, added, largest}
 use Rattle.fb_model_turns.proofs.Joins.{added_joins, largest_joins}
 use Rattle.fb_find_laws.specs.Numbered.{AreNumbers, AreOf}
-use Rattle.fb_find_laws.specs.Nodes.{Numbered, by_number, capped, AskForAll}
+use Rattle.fb_find_laws.specs.Nodes.{Numbered, by_number, capped, nodes_of, AskForAll}
 use Rattle.fb_types_blocks.specs.Views.{names_of}
 use Rattle.fb_find_demands.specs.declared.numbered.Numbering.{Numbering}
 use Rattle.fb_find_demands.specs.Rights.{numbers_of, numbered}
 use Rattle.fb_find.specs.Given.{nodes_in}
-use Rattle.fb_turns.specs.Counting.{own_of, term_right, chain_rights, AllFit}
+use Rattle.fb_turns.specs.Counting.{own_of, term_right, chain_rights, counts_in, AllFit}
 use Rattle.fb_turns.specs.Counting.{all_right as rest_right}
-use Rattle.fb_turns.proofs.Demanding.{own_node, IsCounted, leaves_count, devices_fit}
-use Rattle.fb_turns.proofs.Owning.{IsOwned, own_known, own_least}
+use Rattle.fb_turns.proofs.Demanding.{all_append, own_node, IsCounted, leaves_count, devices_fit, devices_met}
+use Rattle.fb_turns.proofs.Owning.{IsOwned, bare_owned, own_known, own_least, own_most}
+
+-- counts as numbers of nodes
+abbrev pub number_by : Counts → Node → ℕ
+number_by c (state p) = c.charge p
+number_by c (event p) = c.weight p
+number_by c (channel n) = 0
 
 -- ---- lists
 
@@ -163,10 +171,23 @@ module _ (n : Numbering) where
 
     pub chains_met : (ds : List Demand) → MeetAll y (map counted ds) → MeetAll y (flat_map chained ds)
     chains_met [] m = tt
-    chains_met (d ∷ ds) m = all_both_append (chained d) (flat_map chained ds) (chain_met d m.0) (chains_met ds m.1) where
-      all_both_append : (xs zs : List Demand) → AllByRecursion (IsMet y) xs → AllByRecursion (IsMet y) zs → AllByRecursion (IsMet y) (xs ++ zs)
-      all_both_append [] zs h k = k
-      all_both_append (x ∷ xs) zs h k = (h.0, all_both_append xs zs h.1 k)
+    chains_met (d ∷ ds) m = all_append (IsMet y) (chained d) (flat_map chained ds) (chain_met d m.0) (chains_met ds m.1)
+
+    -- ---- and so do counts that fit
+
+    all_paid : (ds : List Demand) → ((d : Demand) → Contains ds d → Contains (nodes_in n) d.node) → AllByRecursion IsOwned ds → AllByRecursion (IsCounted added added_joins y) ds → MeetAll y (map counted ds)
+    all_paid [] k o m = tt
+    all_paid (d ∷ ds) k o m = (omega (arith, m.0, own_most n stand d (k d (first_in d ds)) o.0, sum_joins y d.terms), all_paid ds (λ e c. k e (later_in d e ds c)) o.1 m.1)
+
+    terms_paid : (d : Demand) (own : ℕ) (ts : List Node) → own + joined largest y ts ≤ y d.node → own_of states (numbers_of n d.node) ≤ own → AllByRecursion (IsMet y) (map (with_term d) ts)
+    terms_paid d own [] h o = tt
+    terms_paid d own (t ∷ ts) h o = (omega (arith, h, o, sum_by-cons y t []), terms_paid d own ts (omega (arith, h)) o)
+
+    chains_paid : (ds : List Demand) → ((d : Demand) → Contains ds d → Contains (nodes_in n) d.node) → AllByRecursion IsOwned ds → AllByRecursion (IsCounted largest largest_joins y) ds → MeetAll y (flat_map chained ds)
+    chains_paid [] k o m = tt
+    chains_paid (d ∷ ds) k o m =
+        let own = own_most n stand d (k d (first_in d ds)) o.0 in
+        all_append (IsMet y) (chained d) (flat_map chained ds) (omega (arith, m.0, own), terms_paid d (own_node d.node) d.terms m.0 own) (chains_paid ds (λ e c. k e (later_in d e ds c)) o.1 m.1)
 
   -- ---- numbers that meet them count
 
@@ -194,8 +215,28 @@ module _ (n : Numbering) where
         let here = all_left (IsMet at_node) (chained d) (flat_map chained ds) m in
         (chain_most (own_node d.node) (at_node d.node) d d.terms (omega (arith, here.0, own_least n stand d.node)) (own_least n stand d.node) refl here.1, chains_count ds (all_right (IsMet at_node) (chained d) (flat_map chained ds) m))
 
-    pub all_fit : (s : System) → MeetAll at_node (map counted (bare_demands (all_leaves s.devices))) → AllFit added n numbers s
+    pub all_fit : (s : System) → MeetAll at_node (map counted (bare_demands (all_leaves s.devices))) → AllFit added s (counts_in n numbers)
     all_fit s m = devices_fit added added_joins at_node s.devices (leaves_count added added_joins at_node (all_leaves s.devices) (all_count (bare_demands (all_leaves s.devices)) m))
 
-    pub chains_fit : (s : System) → MeetAll at_node (flat_map chained (bare_demands (all_leaves s.devices))) → AllFit largest n numbers s
+    pub chains_fit : (s : System) → MeetAll at_node (flat_map chained (bare_demands (all_leaves s.devices))) → AllFit largest s (counts_in n numbers)
     chains_fit s m = devices_fit largest largest_joins at_node s.devices (leaves_count largest largest_joins at_node (all_leaves s.devices) (chains_count (bare_demands (all_leaves s.devices)) m))
+
+  -- ---- and counts that fit are numbers that meet them
+
+  module _ (stand : AreNumbers (nodes_in n) (numbers_of n)) (s : System) (known : (d : Demand) → Contains (bare_demands (all_leaves s.devices)) d → Contains (nodes_in n) d.node) (c : Counts) where
+    pub fitting_all : AllFit added s c → MeetAll (number_by c) (map counted (bare_demands (all_leaves s.devices)))
+    fitting_all h = all_paid stand (number_by c) (bare_demands (all_leaves s.devices)) known (bare_owned (all_leaves s.devices)) (devices_met added added_joins (number_by c) s.devices h)
+
+    pub fitting_chains : AllFit largest s c → MeetAll (number_by c) (flat_map chained (bare_demands (all_leaves s.devices)))
+    fitting_chains h = chains_paid stand (number_by c) (bare_demands (all_leaves s.devices)) known (bare_owned (all_leaves s.devices)) (devices_met largest largest_joins (number_by c) s.devices h)
+
+-- ---- each event has a number
+
+in_channels : (us : List Name) (cs : List ℕ) (p : Place) → Contains (map place_of us) p → Contains (map (λ t. event (place_of t)) us ++ map channel cs) (event p)
+in_channels [] cs p (k, l, e) = absurd (omega (arith, l))
+in_channels (u ∷ us) cs p (zero, l, e) = (zero, omega arith, ap event e)
+in_channels (u ∷ us) cs p (suc k, l, e) = later_in (event (place_of u)) (event p) (map (λ t. event (place_of t)) us ++ map channel cs) (in_channels us cs p (k, omega (arith, l), e))
+
+pub in_nodes : (ts us : List Name) (cs : List ℕ) (p : Place) → Contains (map place_of us) p → Contains (nodes_of ts us cs) (event p)
+in_nodes [] us cs p c = in_channels us cs p c
+in_nodes (t ∷ ts) us cs p c = later_in (state (place_of t)) (event p) (nodes_of ts us cs) (in_nodes ts us cs p c)

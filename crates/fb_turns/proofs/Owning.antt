@@ -18,13 +18,9 @@ use Rattle.fb_find_demands.specs.declared.numbered.Numbering.{Numbering}
 use Rattle.fb_find_demands.specs.Rights.{numbers_of}
 use Rattle.fb_find.specs.Given.{nodes_in}
 use Rattle.fb_turns.specs.Counting.{own_of}
-use Rattle.fb_turns.proofs.Demanding.{own_node}
+use Rattle.fb_turns.proofs.Demanding.{all_append, own_node}
 
 -- ---- lists
-
-pub all_append : {X : Type 0} (P : X → Type 0) (xs ys : List X) → AllByRecursion P xs → AllByRecursion P ys → AllByRecursion P (xs ++ ys)
-all_append P [] ys h k = k
-all_append P (x ∷ xs) ys h k = (h.0, all_append P xs ys h.1 k)
 
 all_from_flat : {X Y : Type 0} (P : Y → Type 0) (f : X → List Y) (xs : List X) → ((x : X) → AllByRecursion P (f x)) → AllByRecursion P (flat_map f xs)
 all_from_flat P f [] h = tt
@@ -115,6 +111,17 @@ module _ (n : Numbering) (stand : AreNumbers (nodes_in n) (numbers_of n)) where
     by : (x : Node) → Contains (nodes_in n) x → Owns x d.constant → own_of states (numbers_of n x) ≤ d.constant
     by (state p) k o = subst (λ b. cond b 0 1 ≤ d.constant) (sym (lt-ltb (numbers_of n (state p)) states (state_before p k))) (omega arith)
     by (event p) k o = omega (arith, o, one (numbers_of n (event p)))
+    by (channel c) k o = absurd o
+
+  -- it is no more than what the node counts
+  pub own_most : (d : Demand) → Contains (nodes_in n) d.node → IsOwned d → own_of states (numbers_of n d.node) ≤ own_node d.node
+  own_most d known h = by d.node known h where
+    by : (x : Node) → Contains (nodes_in n) x → Owns x d.constant → own_of states (numbers_of n x) ≤ own_node x
+    by (state p) k o = subst (λ b. cond b 0 1 ≤ 0) (sym (lt-ltb (numbers_of n (state p)) states (state_before p k))) (omega arith)
+    by (event p) k o = of (nat_lt (numbers_of n (event p)) states) where
+      of : (b : Bool) → cond b 0 1 ≤ 1
+      of true = omega arith
+      of false = omega arith
     by (channel c) k o = absurd o
 
   -- and it is no less than that

@@ -16,7 +16,7 @@ use Rattle.fb_model_laws.proofs.Meeting.{column_meets}
 use Rattle.fb_model_laws.proofs.Walks.{kind_leads, nothing_worked, flat_append}
 use Rattle.fb_model_texts.specs.Small.{AreSmall, IsSmall}
 use Rattle.fb_model_texts.proofs.Small.{amount_small}
-use Rattle.fb_turns.proofs.Owning.{all_append}
+use Rattle.fb_turns.proofs.Demanding.{all_append}
 
 -- ---- what costs nothing is met with what does
 

@@ -1,10 +1,11 @@
 -- The columns of dispatches are ready to be found, and nothing stands in their way.
-use Rattle.std.proofs.Common.{ℕ, ◌≡◌, ◌≤◌, List, map, length, refl, None, ◌∙◌, arith}
+use Rattle.std.proofs.Common.{ℕ, ◌≡◌, ◌≤◌, List, map, length, refl, None, sym, subst, ◌∙◌, arith, Contains}
 use Rattle.std.specs.List.{flat_map}
+use Rattle.fb_model.specs.Names.{Place}
 use Rattle.fb_model.specs.System.{System}
-use Rattle.fb_model.specs.Certificates.{Certificate, Fits, all_leaves, steps_of}
+use Rattle.fb_model.specs.Certificates.{Certificate, Fits, all_leaves, event_places, steps_of}
 use Rattle.fb_model.specs.CertificateText.{most_steps}
-use Rattle.fb_model.specs.Demands.{Node, Demand, bare_demands}
+use Rattle.fb_model.specs.Demands.{Node, event, Demand, bare_demands}
 use Rattle.fb_model.specs.Columns.{number_of, MeetAll}
 use Rattle.fb_model.specs.Finding.{node_of}
 use Rattle.fb_model_laws.proofs.Closed.{all_charts_closed}
@@ -19,11 +20,12 @@ use Rattle.fb_find_demands.specs.declared.numbered.Numbering.{Numbering}
 use Rattle.fb_find_demands.specs.Leaves.{AreClosed}
 use Rattle.fb_find_demands.specs.Rights.{numbers_of, numbered}
 use Rattle.fb_find.specs.Given.{nodes_in}
-use Rattle.fb_find.specs.Columns.{IsColumn, IsCycle, IsPastFault}
+use Rattle.fb_find.specs.Columns.{AreSmallest, IsColumn, IsCycle, IsPastFault}
 use Rattle.fb_find.proofs.Nodes.{numbers_stand, asked_of}
-use Rattle.fb_turns.specs.Counting.{all_right, chain_rights, IsCountable}
+use Rattle.fb_model_turns.specs.Turns.{added, largest}
+use Rattle.fb_turns.specs.Counting.{all_right, chain_rights, counts_in, AreLeastCounts, IsCountable}
 use Rattle.fb_turns.proofs.Owning.{bare_owned}
-use Rattle.fb_turns.proofs.Counted.{counted, chained, all_numbered, chains_numbered, all_of, all_ask, chains_of, chains_ask, all_met, chains_met}
+use Rattle.fb_turns.proofs.Counted.{counted, chained, all_numbered, chains_numbered, all_of, all_ask, chains_of, chains_ask, all_met, chains_met, all_fit, chains_fit, number_by, fitting_all, fitting_chains, in_nodes}
 use Rattle.fb_turns.proofs.Paid.{steps_meet, steps_small}
 
 module _ (devices : List FlatDevice) (n : Numbering) (order : List ℕ) (s : System) (cert : Certificate) (i : IsCountable devices n order s cert) where
@@ -64,6 +66,23 @@ module _ (devices : List FlatDevice) (n : Numbering) (order : List ℕ) (s : Sys
 
   pub chains_meet : MeetAll (number_of (steps_of cert)) (flat_map (chained n) bare_of)
   chains_meet = chains_met n stand (number_of (steps_of cert)) bare_of all_meet
+
+  -- the least numbers that meet them are the least counts
+
+  event_known : (p : Place) → Contains (event_places (all_leaves s.devices)) p → Contains (nodes_in n) (event p)
+  event_known p h = in_nodes (names_of n.states) (names_of n.events) n.channels.items p (subst (λ ps. Contains ps p) (sym i.numbered.ordered.events_are) h)
+
+  pub all_least : (numbers : List ℕ) → AreSmallest n (map (counted n) bare_of) most_steps numbers → AreLeastCounts added s (counts_in n numbers)
+  all_least numbers k = record {
+    fit = all_fit n stand numbers s k.least.meets;
+    least = λ others h p has. k.least.least (number_by others) (fitting_all n stand s known.node others h) (event p) (event_known p has);
+  }
+
+  pub chains_least : (numbers : List ℕ) → AreSmallest n (flat_map (chained n) bare_of) most_steps numbers → AreLeastCounts largest s (counts_in n numbers)
+  chains_least numbers k = record {
+    fit = chains_fit n stand numbers s k.least.meets;
+    least = λ others h p has. k.least.least (number_by others) (fitting_chains n stand s known.node others h) (event p) (event_known p has);
+  }
 
   pub small : (x : Node) → number_of (steps_of cert) x ≤ most_steps
   small = steps_small cert i.has.small

@@ -1,10 +1,11 @@
 -- When numbers of states and events are counts of dispatches, in the terms of the book.
 -- This project's profile.
-use Rattle.std.specs.Prelude.{ℕ, nat_lt, List, [], ◌∷◌, map, slice_index, None, if◌then◌else◌}
-use Rattle.std.specs.List.{AllByRecursion}
+use Rattle.std.specs.Prelude.{ℕ, ◌≤◌, nat_lt, List, [], ◌∷◌, map, slice_index, None, if◌then◌else◌}
+use Rattle.std.specs.List.{AllByRecursion, Contains}
+use Rattle.fb_model.specs.Names.{Place}
 use Rattle.fb_model.specs.System.{System, Device}
 use Rattle.fb_model.specs.Wires.{leaves}
-use Rattle.fb_model.specs.Certificates.{Certificate, Fits}
+use Rattle.fb_model.specs.Certificates.{Certificate, Fits, all_leaves, event_places}
 use Rattle.fb_model.specs.Demands.{Node, state, event}
 use Rattle.fb_model_texts.specs.Small.{AreSmall}
 use Rattle.fb_model_turns.specs.Turns as turns
@@ -61,9 +62,14 @@ counts_by x = record { charge = λ p. x (state p); weight = λ p. x (event p) }
 abbrev pub counts_in : Numbering → List ℕ → Counts
 counts_in n numbers = counts_by (λ x. slice_index numbers (numbers_of n x))
 
--- they fit each device
-abbrev pub AllFit : turns.Join → Numbering → List ℕ → System → Type 0
-AllFit join n numbers s = AllByRecursion (λ (d : Device). DispatchesFit join (counts_in n numbers) (leaves d)) s.devices
+-- they fit each device of a system
+abbrev pub AllFit : turns.Join → System → Counts → Type 0
+AllFit join s counts = AllByRecursion (λ (d : Device). DispatchesFit join counts (leaves d)) s.devices
+
+-- and at no event input or arrival do others that fit say less
+pub record AreLeastCounts (join : turns.Join) (s : System) (counts : Counts) : Type 0 where
+  pub fit : AllFit join s counts
+  pub least : (others : Counts) → AllFit join s others → (p : Place) → Contains (event_places (all_leaves s.devices)) p → counts.weight p ≤ others.weight p
 
 abbrev pub all_in : Turns → Counts
 all_in t = counts_in t.numbering t.all.items
@@ -71,7 +77,7 @@ all_in t = counts_in t.numbering t.all.items
 abbrev pub longest_in : Turns → Counts
 longest_in t = counts_in t.numbering t.longest.items
 
--- the counts of all dispatches fit each device of a system, and so do those of the longest chains
+-- the counts of all dispatches, and those of the longest chains, are the least that fit the devices of a system
 pub record AreCounts (s : System) (t : Turns) : Type 0 where
-  pub all : AllByRecursion (λ (d : Device). DispatchesFit added (all_in t) (leaves d)) s.devices
-  pub longest : AllByRecursion (λ (d : Device). DispatchesFit largest (longest_in t) (leaves d)) s.devices
+  pub all : AreLeastCounts added s (all_in t)
+  pub longest : AreLeastCounts largest s (longest_in t)

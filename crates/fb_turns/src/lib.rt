@@ -1,5 +1,5 @@
 //! Room: finder. How many dispatches of its resource an event of a verified system needs until all that it causes has ended.
-//! `count_turns` answers unless memory runs out, with numbers that fit every device (`DispatchesFit`).
+//! `count_turns` answers unless memory runs out, with the least numbers that fit every device (`DispatchesFit`).
 #![tactic(auto)]
 
 mod alone;

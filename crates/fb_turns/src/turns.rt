@@ -8,7 +8,7 @@ ghost use Rattle.fb_model.specs.CertificateText.{names_in};
 ghost use Rattle.fb_model_turns.specs.Turns.{added, largest};
 ghost use Rattle.fb_verified.specs.Checked.{system_in};
 ghost use Rattle.fb_find.specs.Given.{IsNumbered};
-ghost use Rattle.fb_turns.specs.Counting.{all_in, longest_in, number_at, AllFit, AreCounts, HasFit, IsCountable};
+ghost use Rattle.fb_turns.specs.Counting.{all_in, counts_in, longest_in, number_at, AreCounts, AreLeastCounts, HasFit, IsCountable};
 
 use crate::demand::{all_demands, chain_demands};
 use crate::least::{least, ordered};
@@ -61,7 +61,7 @@ fn all_counts(
     order: &[usize],
 ) -> Result<Vec<u64>, AllocError>
     requires { (s : System) × (cert : book.Certificate) × IsCountable flat.now.devices.items numbering.now order.now s cert }
-    ensures { (s : System) (cert : book.Certificate) → IsCountable flat.now.devices.items numbering.now order.now s cert → IfOk result (λ v. AllFit added numbering.now v.items s) }
+    ensures { (s : System) (cert : book.Certificate) → IsCountable flat.now.devices.items numbering.now order.now s cert → IfOk result (λ v. AreLeastCounts added s (counts_in numbering.now v.items)) }
 {
     let asked = plain_rights(alloc, numbering, 1, flat)?;
     let rights = all_demands(alloc, numbering.states.len(), asked.as_slice())?;
@@ -76,7 +76,7 @@ fn chain_counts(
     order: &[usize],
 ) -> Result<Vec<u64>, AllocError>
     requires { (s : System) × (cert : book.Certificate) × IsCountable flat.now.devices.items numbering.now order.now s cert }
-    ensures { (s : System) (cert : book.Certificate) → IsCountable flat.now.devices.items numbering.now order.now s cert → IfOk result (λ v. AllFit largest numbering.now v.items s) }
+    ensures { (s : System) (cert : book.Certificate) → IsCountable flat.now.devices.items numbering.now order.now s cert → IfOk result (λ v. AreLeastCounts largest s (counts_in numbering.now v.items)) }
 {
     let asked = plain_rights(alloc, numbering, 1, flat)?;
     let rights = chain_demands(alloc, numbering.states.len(), asked.as_slice())?;

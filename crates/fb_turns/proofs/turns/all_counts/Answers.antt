@@ -8,9 +8,9 @@ use Rattle.fb_types_blocks.specs.Views.{names_of}
 use Rattle.fb_find_demands.specs.Rights.{rights_of, numbered}
 use Rattle.fb_find.specs.Columns.{AreSmallest}
 use Rattle.fb_model_turns.specs.Turns.{added}
-use Rattle.fb_turns.specs.Counting.{all_right, AllFit}
-use Rattle.fb_turns.proofs.Counted.{counted, all_fit}
-use Rattle.fb_turns.proofs.Ready.{closed, stand, all_column, all_meet, small}
+use Rattle.fb_turns.specs.Counting.{all_right, counts_in, AreLeastCounts}
+use Rattle.fb_turns.proofs.Counted.{counted}
+use Rattle.fb_turns.proofs.Ready.{closed, all_column, all_meet, small, all_least}
 use Rattle.fb_turns.proofs.Resources.{ok_weaker}
 use Rattle.fb_turns.proofs.turns.all_counts.Goals as goal
 
@@ -40,5 +40,5 @@ returns c = λ s cert i.
     let bare : asked ≡ numbered n (bare_demands (all_leaves s.devices)) = c.in_ok-asked.ensures.bare s i.numbered.given.tables (closed fs n o s cert i) refl in
     let read : rights_of c.in_ok-rights.rights.items ≡ map (all_right (length (names_of n.states))) asked =
     c.in_ok-rights.ensures ∙ ap (λ k. map (all_right k) (rights_of c.as_slice.result.now)) many ∙ ap (λ rs. map (all_right (length (names_of n.states))) (rights_of rs)) c.as_slice.ensures.value in
-    ok_weaker (λ v. AreSmallest n ds most_steps v.items) (λ v. AllFit added n v.items s) (λ v k. all_fit n (stand fs n o s cert i) v.items s k.least.meets) c.least.result
+    ok_weaker (λ v. AreSmallest n ds most_steps v.items) (λ v. AreLeastCounts added s (counts_in n v.items)) (λ v k. all_least fs n o s cert i v.items k) c.least.result
     (c.least.ensures ds (all_column fs n o s cert i asked (rights_of c.in_ok-rights.rights.items) bare read))

@@ -9,9 +9,9 @@ use Rattle.fb_types_blocks.specs.Views.{names_of}
 use Rattle.fb_find_demands.specs.Rights.{rights_of, numbered}
 use Rattle.fb_find.specs.Columns.{AreSmallest}
 use Rattle.fb_model_turns.specs.Turns.{largest}
-use Rattle.fb_turns.specs.Counting.{chain_rights, AllFit}
-use Rattle.fb_turns.proofs.Counted.{chained, chains_fit}
-use Rattle.fb_turns.proofs.Ready.{closed, stand, chain_column, chains_meet, small}
+use Rattle.fb_turns.specs.Counting.{chain_rights, counts_in, AreLeastCounts}
+use Rattle.fb_turns.proofs.Counted.{chained}
+use Rattle.fb_turns.proofs.Ready.{closed, chain_column, chains_meet, small, chains_least}
 use Rattle.fb_turns.proofs.Resources.{ok_weaker}
 use Rattle.fb_turns.proofs.turns.chain_counts.Goals as goal
 
@@ -41,5 +41,5 @@ returns c = λ s cert i.
     let bare : asked ≡ numbered n (bare_demands (all_leaves s.devices)) = c.in_ok-asked.ensures.bare s i.numbered.given.tables (closed fs n o s cert i) refl in
     let read : rights_of c.in_ok-rights.rights.items ≡ flat_map (chain_rights (length (names_of n.states))) asked =
     c.in_ok-rights.ensures ∙ ap (λ k. flat_map (chain_rights k) (rights_of c.as_slice.result.now)) many ∙ ap (λ rs. flat_map (chain_rights (length (names_of n.states))) (rights_of rs)) c.as_slice.ensures.value in
-    ok_weaker (λ v. AreSmallest n ds most_steps v.items) (λ v. AllFit largest n v.items s) (λ v k. chains_fit n (stand fs n o s cert i) v.items s k.least.meets) c.least.result
+    ok_weaker (λ v. AreSmallest n ds most_steps v.items) (λ v. AreLeastCounts largest s (counts_in n v.items)) (λ v k. chains_least fs n o s cert i v.items k) c.least.result
     (c.least.ensures ds (chain_column fs n o s cert i asked (rights_of c.in_ok-rights.rights.items) bare read))
