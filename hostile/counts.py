@@ -1,9 +1,9 @@
 #!/usr/bin/env python3
 """Floods of offers beside the counts of dispatches that `explain` prints: hostile/counts.py PROGRAM [--seed N] [--lines N] [--show]
 
-Each plant of examples/ is bounded, with the least queues and with --room 2, and simulated with random offers at all INPUTs, ticks and dispatches. For each offer
-that is admitted, the dispatches of its resource are counted until its cause has ended. It fails if one took more than `explain` says that it takes at most, or if
-fewer than a third of the counts for the least queues are reached exactly by some offer. It prints how many were."""
+Each plant of examples/ is bounded, with the least queues and with --room 2, and simulated with random offers at all INPUTs, ticks and dispatches. For
+each offer that is admitted, the dispatches of its resource are counted until its cause has ended. It fails if one took more than `explain` says that
+it takes at most, or if fewer than a third of the counts for the least queues are reached exactly by some offer. It prints how many were."""
 import argparse
 import collections
 import glob

@@ -79,10 +79,10 @@ def counted(said):
     """The lines for people of how many dispatches the arrivals cause."""
     for resource in said.get("resources", []):
         for arrival in resource["arrivals"]:
-            if counts := arrival.get("dispatches"):
-                beside = "no room for others" if counts["alone"] else "others in between"
-                told = f"dispatches: {counts['all']} in all, {counts['in_a_row']} in a row, with {beside}; all has ended after {counts['end']} dispatches of {resource['path']}"
-                yield rf"^    {re.escape(arrival['path'])}: .*\n        {re.escape(told)}$"
+            counts = arrival["dispatches"]
+            beside = "no room for others" if counts["alone"] else "others in between"
+            told = f"dispatches: {counts['all']} in all, {counts['in_a_row']} in a row, with {beside}; all has ended after {counts['end']} dispatches of {resource['path']}"
+            yield rf"^    {re.escape(arrival['path'])}: .*\n        {re.escape(told)}$"
 
 
 def compared(said, plain):
