@@ -135,7 +135,7 @@ module _ (P : List Name → Type 0) (nothing : P []) where
   timer_emits a b x d false false true ha hb hx hd h = hx h
   timer_emits a b x d false false false ha hb hx hd h = hd
 
-  reply_emits : (service : Service) (clock : ℕ) (e : Name) (values : List ℤ) (s : LeafState) → P (can_emit service e) → P (reply service clock e values s).outs
+  pub reply_emits : (service : Service) (clock : ℕ) (e : Name) (values : List ℤ) (s : LeafState) → P (can_emit service e) → P (reply service clock e values s).outs
   reply_emits (Input number types) clock e values s h = h
   reply_emits (Output number types) clock e values s h = h
   reply_emits (Publish channel types) clock e values s h = go (bytes_eq e init) h

@@ -31,7 +31,7 @@ fn memory(fault: NoBound) -> AllocError
 }
 
 /// Each node's number after all that it demands: where a certificate fits, demands go in no circle.
-pub(crate) fn ordered(
+pub fn ordered(
     alloc: Global,
     flat: &Flat,
     numbering: &Numbering,

@@ -8,4 +8,5 @@ mod least;
 mod turns;
 
 pub use alone::is_alone;
+pub use least::ordered;
 pub use turns::{Turns, count_turns};

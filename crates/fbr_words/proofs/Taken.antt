@@ -5,7 +5,7 @@ use Rattle.clap.specs.Simple.{has_plain_fields}
 use Rattle.clap.specs.declared.builder.command.Command.{Command}
 use Rattle.clap.specs.declared.builder.command.Command.TheViews.{out-Command}
 use Rattle.clap.proofs.OnLiterals.{clap_on_literals}
-use Rattle.fbr_words.specs.Program.{program, request_of, a_bound, a_check, a_sim, a_pack, IsMisuse}
+use Rattle.fbr_words.specs.Program.{program, request_of, a_bound, a_check, a_sim, a_pack, a_time, IsMisuse}
 
 -- a command without groups and global arguments has none of the latter
 third : (a b c d : Bool) → (a && (not b && (not c && d))) ≡ true → c ≡ false
@@ -83,6 +83,12 @@ is_with = refl
 is_pack : request_of (codes "fbr" ∷ codes "pack" ∷ codes "cell.fb" ∷ codes "-o" ∷ codes "one.fb" ∷ []) ≡ Some (record { texts = []; asked = a_pack (record { app = codes "cell.fb"; meant = None; into = Some (codes "one.fb") }) })
 unfolding clap_on_literals
 is_pack = refl
+
+-- and such are times on the way to a block
+is_time : request_of (codes "fbr" ∷ codes "time" ∷ codes "cell.fb" ∷ codes "cell.cert" ∷ codes "--from" ∷ codes "LIMIT" ∷ codes "--to" ∷ codes "VALVE" ∷ [])
+    ≡ Some (record { texts = []; asked = a_time (record { app = codes "cell.fb"; meant = None; cert = codes "cell.cert"; prices = None; way = Some (codes "LIMIT", codes "VALVE"); json = false }) })
+unfolding clap_on_literals
+is_time = refl
 
 -- these are none
 is_misused : IsMisuse (codes "fbr" ∷ codes "check" ∷ codes "cell.fb" ∷ [])

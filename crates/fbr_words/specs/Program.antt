@@ -151,6 +151,10 @@ serve =
 abbrev pub pack : App
 pack = with_rule (over_file (codes "pack")) output
 
+-- `time`, its two files, the file of prices, both ends of a way, and `--json`
+abbrev pub time : App
+time = with_rule (with_rule (with_rule (with_rule (over_files (codes "time")) (number (codes "calibration"))) (number (codes "from"))) (number (codes "to"))) json
+
 -- `key`, and the state that it begins
 abbrev pub key : App
 key = with_rule (new_app (codes "key")) (number (codes "state"))
@@ -161,8 +165,8 @@ top = record { top = record (new_app (codes "fbr")).top { has_version = true; su
 
 abbrev pub program : App
 program =
-    with_subcommand (with_subcommand (with_subcommand (with_subcommand (with_subcommand (with_subcommand (with_subcommand (with_subcommand (with_subcommand (with_subcommand top bound.top) check.top)
-    sim.top) play.top) explain.top) draw.top) serve.top) replay.top) pack.top) key.top
+    with_subcommand (with_subcommand (with_subcommand (with_subcommand (with_subcommand (with_subcommand (with_subcommand (with_subcommand (with_subcommand (with_subcommand (with_subcommand top bound.top) check.top)
+    sim.top) play.top) explain.top) draw.top) serve.top) replay.top) pack.top) time.top) key.top
 
 -- a number of 1 to 255
 abbrev pub small_in : Option ℕ → Option ℕ
@@ -563,6 +567,33 @@ packing_with None into = None
 abbrev pub packing_in : List Row → Option Packing
 packing_in rows = packing_with (first_of (codes "APP") rows) (into_of rows)
 
+-- ---- what `time` is asked for
+
+-- the files of an application and of its certificate; the file of prices, and both ends of a way, where these are named; and whether JSON is printed
+pub record Timing : Type 0 where
+  pub app : Text
+  pub meant : Option Text
+  pub cert : Text
+  pub prices : Option Text
+  pub way : Option (Text × Text)
+  pub json : Bool
+
+-- no way, or one with both its ends; nothing where one end is named alone
+abbrev pub way_by : Option Text → Option Text → Option (Option (Text × Text))
+way_by None None = Some None
+way_by (Some from) (Some to) = Some (Some (from, to))
+way_by None (Some to) = None
+way_by (Some from) None = None
+
+abbrev pub timing_with : Option Text → Option Text → Option Text → Option (Option (Text × Text)) → Bool → Option Timing
+timing_with (Some app) (Some cert) prices (Some way) json = Some (record { app = app; meant = None; cert = cert; prices = prices; way = way; json = json })
+timing_with app cert prices way json = None
+
+abbrev pub timing_in : List Row → Option Timing
+timing_in rows =
+    timing_with (first_of (codes "APP") rows) (first_of (codes "CERT") rows) (first_of (codes "calibration") rows)
+    (way_by (first_of (codes "from") rows) (first_of (codes "to") rows)) (is_set (first_of (codes "json") rows))
+
 -- ---- what the program is asked for
 
 -- a command, with all that its words say
@@ -576,6 +607,7 @@ pub data Asked : Type 0 where
   a_serve : Service → Asked
   a_replay : Replaying → Asked
   a_pack : Packing → Asked
+  a_time : Timing → Asked
   a_key : Option Text → Asked
 
 -- what the words of a subcommand of this name ask for
@@ -590,7 +622,8 @@ request_in entered =
     else (if bytes_eq entered.0 (codes "serve") then option_map a_serve (service_in entered.1)
     else (if bytes_eq entered.0 (codes "replay") then option_map a_replay (replaying_in entered.1)
     else (if bytes_eq entered.0 (codes "pack") then option_map a_pack (packing_in entered.1)
-    else (if bytes_eq entered.0 (codes "key") then Some (a_key (first_of (codes "state") entered.1)) else None)))))))))
+    else (if bytes_eq entered.0 (codes "time") then option_map a_time (timing_in entered.1)
+    else (if bytes_eq entered.0 (codes "key") then Some (a_key (first_of (codes "state") entered.1)) else None))))))))))
 
 -- the files of the block types that are to stand before an application, in their order; nothing where there are more than 64
 abbrev pub texts_in : List Row → Option (List Text)
@@ -635,6 +668,7 @@ often_of (a_draw q) = q.repeats
 often_of (a_serve q) = None
 often_of (a_replay q) = None
 often_of (a_pack q) = None
+often_of (a_time q) = None
 often_of (a_key state) = None
 
 -- the file of the application; a key has none
@@ -648,6 +682,7 @@ app_of (a_draw q) = q.app
 app_of (a_serve q) = q.app
 app_of (a_replay q) = q.app
 app_of (a_pack q) = q.app
+app_of (a_time q) = q.app
 app_of (a_key state) = []
 
 -- the same of the text that is meant by it
@@ -661,6 +696,7 @@ over text (a_draw q) = a_draw (record q { meant = Some text })
 over text (a_serve q) = a_serve (record q { meant = Some text })
 over text (a_replay q) = a_replay (record q { meant = Some text })
 over text (a_pack q) = a_pack (record q { meant = Some text })
+over text (a_time q) = a_time (record q { meant = Some text })
 over text (a_key state) = a_key state
 
 -- the file that holds the boot, where one does
@@ -692,6 +728,7 @@ written_by (a_draw q) = if_named q.into
 written_by (a_serve q) = if_named (boot_file q.life.boot) ++ (if_named (state_file q.guard) ++ if_named q.life.recorded)
 written_by (a_replay q) = kept_by q.watched
 written_by (a_pack q) = if_named q.into
+written_by (a_time q) = []
 written_by (a_key state) = if_named state
 
 -- none where words ask for nothing

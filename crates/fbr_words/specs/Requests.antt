@@ -22,13 +22,15 @@ use Rattle.fbr_words.specs.declared.serve.Life.{Life as LifeRequest}
 use Rattle.fbr_words.specs.declared.serve.Telling.{Telling as TellingRequest}
 use Rattle.fbr_words.specs.declared.serve.Serve.{Serve as ServeRequest}
 use Rattle.fbr_words.specs.declared.pack.Pack.{Pack as PackRequest}
+use Rattle.fbr_words.specs.declared.time.Time.{Time as TimeRequest}
+use Rattle.fbr_words.specs.declared.time.Way.{Way}
 use Rattle.fbr_words.specs.declared.request.Request.{Request}
-use Rattle.fbr_words.specs.declared.request.Request.TheVariants.{Bound, Check, Sim, Play, Explain, Draw, Serve, Replay, Pack, Key}
+use Rattle.fbr_words.specs.declared.request.Request.TheVariants.{Bound, Check, Sim, Play, Explain, Draw, Serve, Replay, Pack, Time, Key}
 use Rattle.fbr_words.specs.declared.order.Order.{Order as OrderRequest}
 use Rattle.fbr_texts.specs.declared.meant.Meant.{Meant}
 use Rattle.fbr_words.specs.declared.reading.Misread.{Misread}
 use Rattle.fbr_words.specs.declared.reading.Misread.TheVariants.{Memory, Help, Words, Number}
-use Rattle.fbr_words.specs.Program.{program, Sought, Checking, Watching, Simulating, Plays, Question, Drawing, Network, Boot, numbered, in_file, Life, Telling, Guard, unsealed, sealed, Service, Replaying, Packing, Asked, a_bound, a_check, a_sim, a_play, an_explain, a_draw, a_serve, a_replay, a_pack, a_key, Order, request_of}
+use Rattle.fbr_words.specs.Program.{program, Sought, Checking, Watching, Simulating, Plays, Question, Drawing, Network, Boot, numbered, in_file, Life, Telling, Guard, unsealed, sealed, Service, Replaying, Packing, Timing, Asked, a_bound, a_check, a_sim, a_play, an_explain, a_draw, a_serve, a_replay, a_pack, a_time, a_key, Order, request_of}
 
 -- which ranges are wanted: the file that is named, or that there is a search
 abbrev pub ranges_of : Ranges → Option (Option Text)
@@ -133,6 +135,13 @@ service_of r = record { app = r.app.now; meant = meant_of r.meant; cert = r.cert
 abbrev pub packing_of : PackRequest → Packing
 packing_of p = record { app = p.app.now; meant = meant_of p.meant; into = option_map (λ name. name.now) p.into }
 
+abbrev pub way_of : Way → Text × Text
+way_of w = (w.from.now, w.to.now)
+
+abbrev pub timing_of : TimeRequest → Timing
+timing_of t =
+    record { app = t.app.now; meant = meant_of t.meant; cert = t.cert.now; prices = option_map (λ name. name.now) t.prices; way = option_map way_of t.way; json = t.is_json }
+
 abbrev pub asked_of : Request → Asked
 asked_of (Bound b) = a_bound (sought_of b)
 asked_of (Check f) = a_check (checking_of f)
@@ -143,6 +152,7 @@ asked_of (Draw d) = a_draw (drawing_of d)
 asked_of (Serve s) = a_serve (service_of s)
 asked_of (Replay r) = a_replay (replaying_of r)
 asked_of (Pack p) = a_pack (packing_of p)
+asked_of (Time t) = a_time (timing_of t)
 asked_of (Key state) = a_key (option_map (λ name. name.now) state)
 
 abbrev pub order_of : OrderRequest → Order

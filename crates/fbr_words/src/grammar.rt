@@ -503,6 +503,24 @@ fn packed<'a>(alloc: Global) -> Result<Command<'a>, AllocError>
     with(over_file(alloc, "pack", about), output(alloc))
 }
 
+// The subcommand that times events.
+fn timed<'a>(alloc: Global) -> Result<Command<'a>, AllocError>
+    ensures { IfOk result (λ c. app_of c ≡ program.time) }
+{
+    let about = "Tells how many dispatches, how much work and how long each event takes at most";
+    let help_prices = "The prices of this machine, as `fbr-calibrate` wrote them";
+    let help_from = "The instance with the arrival from which a way is told";
+    let help_to = "The instance to which it is told";
+    let both = over_files(alloc, "time", about);
+    let priced = with(
+        both,
+        number(alloc, "calibration", "FILE", help_prices),
+    );
+    let begun = with(priced, number(alloc, "from", "PATH", help_from));
+    let ended = with(begun, number(alloc, "to", "PATH", help_to));
+    with(ended, json(alloc))
+}
+
 /// All of them.
 pub fn commands<'a>(alloc: Global) -> Result<Command<'a>, AllocError>
     ensures { IfOk result (λ c. app_of c ≡ program.program) }
@@ -520,5 +538,6 @@ pub fn commands<'a>(alloc: Global) -> Result<Command<'a>, AllocError>
     let serves = with_command(draws, served(alloc));
     let replays = with_command(serves, replayed(alloc));
     let packs = with_command(replays, packed(alloc));
-    with_command(packs, keyed(alloc))
+    let times = with_command(packs, timed(alloc));
+    with_command(times, keyed(alloc))
 }

@@ -17,6 +17,7 @@ mod request;
 mod serve;
 mod shown;
 mod sim;
+mod time;
 mod watched;
 
 pub use bound::{Bound, Ranges};
@@ -33,4 +34,5 @@ pub use request::Request;
 pub use serve::{Boot, Life, Serve, Telling};
 pub use shown::{Draw, Explain};
 pub use sim::Sim;
+pub use time::{Time, Way};
 pub use watched::Watched;

@@ -10,6 +10,7 @@ use crate::grammar::commands;
 use crate::guard::is_unguarded;
 use crate::order::{Order, order_in};
 use crate::shown::{UNCOUNTED, misfit_in};
+use crate::time::HALF_WAY;
 use crate::watched::names_in;
 use clap::error::ErrorKind;
 use clap::{ArgMatches, Error};
@@ -54,6 +55,8 @@ fn misfit(name: &str, words: &ArgMatches<'_>) -> &'static str {
         } else {
             UNNUMBERED
         }
+    } else if name == "time" {
+        HALF_WAY
     } else if name == "sim" || name == "play" || name == "replay" {
         TOO_MANY
     } else {

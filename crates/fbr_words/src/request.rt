@@ -14,6 +14,7 @@ use crate::replay::{Replay, replay_in};
 use crate::serve::{Serve, serve_in};
 use crate::shown::{Draw, Explain, draw_in, explain_in};
 use crate::sim::{Sim, sim_in};
+use crate::time::{Time, time_in};
 use clap::ArgMatches;
 use fbr_texts::Meant;
 
@@ -38,6 +39,8 @@ pub enum Request<'a> {
     Replay(Replay<'a>),
     /// Writes the text that an application is.
     Pack(Pack<'a>),
+    /// Tells how long events take.
+    Time(Time<'a>),
     /// Makes a key, and begins the state of this file, where one is named.
     Key(Option<&'a str>),
 }
@@ -100,6 +103,12 @@ fn pack<'a>(words: &ArgMatches<'a>) -> Option<Request<'a>>
     Some(Request::Pack(pack_in(words)?))
 }
 
+fn time<'a>(words: &ArgMatches<'a>) -> Option<Request<'a>>
+    ensures { option_map asked_of result ≡ option_map program.a_time (program.timing_in (rows_of (found_of words.now))) }
+{
+    Some(Request::Time(time_in(words)?))
+}
+
 fn key<'a>(words: &ArgMatches<'a>) -> Request<'a>
     ensures { asked_of result ≡ program.a_key (first_of (codes "state") (rows_of (found_of words.now))) }
 {
@@ -129,6 +138,8 @@ pub fn request_in<'a>(name: &str, words: &ArgMatches<'a>) -> Option<Request<'a>>
         replay(words)
     } else if name == "pack" {
         pack(words)
+    } else if name == "time" {
+        time(words)
     } else if name == "key" {
         Some(key(words))
     } else {
@@ -177,6 +188,10 @@ fn over<'a>(request: Request<'a>, meant: Meant<'a>) -> Request<'a>
             pack.meant = Some(meant);
             Request::Pack(pack)
         }
+        Request::Time(mut time) => {
+            time.meant = Some(meant);
+            Request::Time(time)
+        }
         Request::Key(state) => Request::Key(state),
     }
 }
@@ -196,6 +211,7 @@ impl<'a> Request<'a> {
             Request::Serve(request) => request.app,
             Request::Replay(request) => request.app,
             Request::Pack(request) => request.app,
+            Request::Time(request) => request.app,
             Request::Key(_) => "",
         }
     }

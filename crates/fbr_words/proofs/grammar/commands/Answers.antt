@@ -1,6 +1,6 @@
 use Rattle.std.proofs.Common.{◌≡◌, refl, rules}
 use Rattle.clap.specs.Words.{App, app_of, with_subcommand}
-use Rattle.fbr_words.specs.Program.{bound, check, sim, play, explain, draw, serve, replay, pack, key, top}
+use Rattle.fbr_words.specs.Program.{bound, check, sim, play, explain, draw, serve, replay, pack, time, key, top}
 use Rattle.fbr_words.proofs.grammar.commands.Goals as goal
 
 pub returns : goal.returns
@@ -24,4 +24,6 @@ returns c =
     let eighth = c.with_command-replays.ensures seven replay seventh c.replayed.ensures refl in
     let nine : App = with_subcommand eight pack.top in
     let ninth = c.with_command-packs.ensures eight pack eighth c.packed.ensures refl in
-    c.with_command.ensures nine key ninth c.keyed.ensures refl
+    let ten : App = with_subcommand nine time.top in
+    let tenth = c.with_command-times.ensures nine time ninth c.timed.ensures refl in
+    c.with_command.ensures ten key tenth c.keyed.ensures refl

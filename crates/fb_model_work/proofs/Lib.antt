@@ -1,0 +1,9 @@
+pub mod Priced
+pub mod Cleared
+pub mod Repeating
+pub mod Algorithms
+pub mod Pricing
+pub mod Charts
+pub mod Dispatches
+pub mod Courses
+pub mod Bounded

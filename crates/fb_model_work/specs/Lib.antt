@@ -1,0 +1,3 @@
+pub mod Spending
+pub mod Most
+pub mod Work

@@ -1,0 +1,3 @@
+pub mod Capping
+pub mod Linking
+pub mod Going
