@@ -2,7 +2,7 @@
 _fbr() {
     local word=${COMP_WORDS[COMP_CWORD]} command=${COMP_WORDS[1]} options
     if [ "$COMP_CWORD" -eq 1 ]; then
-        mapfile -t COMPREPLY < <(compgen -W "bound check sim play explain draw serve replay pack key help --help --version" -- "$word")
+        mapfile -t COMPREPLY < <(compgen -W "bound check sim play explain draw serve replay pack time key help --help --version" -- "$word")
         return
     fi
     case $command in
@@ -16,7 +16,8 @@ _fbr() {
         check) options="--with --strict --allow --json --all --help" ;;
         key) options="--state --help" ;;
         pack) options="--with --output --help" ;;
-        help) mapfile -t COMPREPLY < <(compgen -W "bound check sim play explain draw serve replay pack key help" -- "$word") && return ;;
+        time) options="--with --calibration --from --to --json --help" ;;
+        help) mapfile -t COMPREPLY < <(compgen -W "bound check sim play explain draw serve replay pack time key help" -- "$word") && return ;;
     esac
     if [ "${word:0:1}" = - ]; then
         mapfile -t COMPREPLY < <(compgen -W "$options" -- "$word")

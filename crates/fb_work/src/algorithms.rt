@@ -1,6 +1,6 @@
 //! What the algorithms of a leaf cost.
 
-ghost use Rattle.std.specs.Prelude.{◌≡◌, ◌<◌, IfErr, IfOk};
+ghost use Rattle.std.specs.Prelude.{◌≡◌, ◌<◌, ◌++◌, ◌∷◌, [], map, IfErr, IfOk, OnOk};
 ghost use Rattle.std.specs.List.{Any};
 ghost use Rattle.fb_model.specs.System as system;
 ghost use Rattle.fb_model.specs.CertificateText.{most_steps};
@@ -24,7 +24,7 @@ use fb_ranges::Ranges;
 use fb_work_statements::{MANY, added, algorithm_work};
 use indexmap::IndexMap;
 use st_types::Algo;
-use std::alloc::Global;
+use std::alloc::{AllocError, Global};
 
 // What an algorithm costs with its call.
 fn call_work(
@@ -44,6 +44,14 @@ fn call_work(
     Ok(called)
 }
 
+// Adds a number.
+fn add(number: u64, numbers: &mut Vec<u64>) -> Result<(), AllocError>
+    ensures { OnOk result (numbers.new.items ≡ numbers.old.items ++ number ∷ []) }
+{
+    numbers.push(number)?;
+    Ok(())
+}
+
 // The same of each algorithm of a block.
 fn block_costs(
     alloc: Global,
@@ -59,7 +67,10 @@ fn block_costs(
         let Some((_, algorithm)) = procedures.get_index(index) else {
             return Ok(costs);
         };
-        costs.push(call_work(alloc, prices, algorithm, rows)?)?;
+        add(
+            call_work(alloc, prices, algorithm, rows)?,
+            &mut costs,
+        )?;
     }
     Ok(costs)
 }

@@ -1,6 +1,6 @@
 -- The work that each demand of a leaf asks for, in the order of the demands that hold whatever algorithms cost.
 -- This project's profile.
-use Rattle.std.specs.Prelude.{ℕ, ◌+◌, ◌*◌, max, length, List, [], ◌∷◌, ◌++◌, map, Option, None, Some, if◌then◌else◌}
+use Rattle.std.specs.Prelude.{ℕ, ◌+◌, max, List, [], ◌∷◌, ◌++◌, map, Option, None, Some, if◌then◌else◌}
 use Rattle.std.specs.List.{sum_by, flat_map}
 use Rattle.fb_prices.specs.declared.primitive.Primitive.TheVariants as p
 use Rattle.fb_model.specs.Names.{Name, Place}

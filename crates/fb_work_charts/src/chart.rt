@@ -1,6 +1,6 @@
 //! States, and transitions without an event.
 
-ghost use Rattle.std.specs.Prelude.{◌≡◌, ◌++◌, ◌≤◌, [], length, map, take, drop, OnOk};
+ghost use Rattle.std.specs.Prelude.{◌≡◌, ◌++◌, [], map, OnOk};
 ghost use Rattle.fb_types_blocks.specs.Views.{block_of, states_of, transition_of};
 ghost use Rattle.fb_find_laws.specs.Nodes.{capped};
 ghost use Rattle.fb_find_demands.specs.Grounds.{table_names};
@@ -61,12 +61,7 @@ fn add_frees(scene: &Scene, block: &Block, works: &mut Vec<u64>) -> Result<(), A
     for index in 0..transitions.len() {
         let transition = &transitions[index];
         if transition.event.is_none() {
-            works.push(free_work(
-                scene,
-                block,
-                &transitions[..index + 1],
-                transition,
-            ))?;
+            works.push(free_work(scene, block, &transitions[..index + 1], transition))?;
         }
     }
     Ok(())

@@ -38,12 +38,7 @@ fn most_trials(scene: &Scene, block: &Block, event: &str) -> u64
         let Some((name, _)) = block.states.get_index(index) else {
             return most;
         };
-        let tried = trials_work(
-            scene.prices,
-            &block.transitions,
-            name.as_str(),
-            Some(event),
-        );
+        let tried = trials_work(scene.prices, &block.transitions, name.as_str(), Some(event));
         most = most.max(tried);
     }
     most

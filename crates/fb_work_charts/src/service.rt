@@ -2,7 +2,7 @@
 
 ghost use Rattle.std.specs.Prelude.{◌≡◌, ◌+◌, ◌*◌, ◌++◌, [], length, map, OnOk};
 ghost use Rattle.std.specs.List.{flat_map};
-ghost use Rattle.fb_model.specs.Services.{can_emit, service_events, service_gives, service_takes};
+ghost use Rattle.fb_model.specs.Services.{service_events, service_gives, service_takes};
 ghost use Rattle.fb_model.specs.Wires.{Serviced};
 ghost use Rattle.fb_types_services.specs.Views.{service_of};
 ghost use Rattle.fb_find_laws.specs.Nodes.{capped};
@@ -27,27 +27,9 @@ fn takes(service: &Service, event: &str) -> usize
     match service {
         Service::Input(_, _) | Service::Restart => 0,
         Service::Output(_, types) => types.len(),
-        Service::Publish(_, types) => {
-            if event == REQ {
-                1 + types.len()
-            } else {
-                1
-            }
-        }
-        Service::Subscribe(_, _) => {
-            if event == ARRIVE {
-                0
-            } else {
-                1
-            }
-        }
-        Service::Delay | Service::Cycle => {
-            if event == START {
-                1
-            } else {
-                0
-            }
-        }
+        Service::Publish(_, types) => { if event == REQ { 1 + types.len() } else { 1 } }
+        Service::Subscribe(_, _) => { if event == ARRIVE { 0 } else { 1 } }
+        Service::Delay | Service::Cycle => { if event == START { 1 } else { 0 } }
     }
 }
 
@@ -59,13 +41,7 @@ fn gives(service: &Service, output: &str) -> usize
         Service::Input(_, types) => types.len(),
         Service::Output(_, _) | Service::Delay | Service::Cycle | Service::Restart => 0,
         Service::Publish(_, _) => 1,
-        Service::Subscribe(_, types) => {
-            if output == IND {
-                1 + types.len()
-            } else {
-                1
-            }
-        }
+        Service::Subscribe(_, types) => { if output == IND { 1 + types.len() } else { 1 } }
     }
 }
 

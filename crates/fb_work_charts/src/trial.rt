@@ -1,6 +1,6 @@
 //! Transitions that are tried.
 
-ghost use Rattle.std.specs.Prelude.{◌≡◌, map, string_bytes};
+ghost use Rattle.std.specs.Prelude.{◌≡◌, map};
 ghost use Rattle.std.specs.Option.{option_map};
 ghost use Rattle.fb_model.specs.Charts.{is_open};
 ghost use Rattle.fb_types_blocks.specs.Views.{transition_of};

@@ -6,7 +6,7 @@ use Rattle.fbr_files.specs.declared.fault.Fault.{Fault}
 use Rattle.fbr_files.specs.declared.fault.Fault.TheVariants.{Usage}
 use Rattle.fbr_files.specs.Outcomes.{Outcome, Tells, refusal}
 use Rattle.fbr_files.specs.Writing.{Sameness, Holdings}
-use Rattle.fbr_words.specs.Program.{Asked, Order, a_bound, a_check, a_sim, a_play, an_explain, a_draw, a_serve, a_replay, a_pack, a_key, app_of, over, often_of, written_by, request_of, IsMisuse}
+use Rattle.fbr_words.specs.Program.{Asked, Order, a_bound, a_check, a_sim, a_play, an_explain, a_draw, a_serve, a_replay, a_pack, a_time, a_key, app_of, over, often_of, written_by, request_of, IsMisuse}
 use Rattle.fbr_words.specs.Requests.{IsMisread}
 use Rattle.fbr_words.specs.declared.reading.Misread.{Misread}
 use Rattle.fbr_words.specs.declared.reading.Misread.TheVariants.{Memory, Help, Words, Number}
@@ -57,6 +57,7 @@ written_over text (a_draw q) = refl
 written_over text (a_serve q) = refl
 written_over text (a_replay q) = refl
 written_over text (a_pack q) = refl
+written_over text (a_time q) = refl
 written_over text (a_key state) = refl
 
 pub often_over : (text : Text) (q : Asked) → often_of (over text q) ≡ often_of q
@@ -69,6 +70,7 @@ often_over text (a_draw q) = refl
 often_over text (a_serve q) = refl
 often_over text (a_replay q) = refl
 often_over text (a_pack q) = refl
+often_over text (a_time q) = refl
 often_over text (a_key state) = refl
 
 -- an outcome in JSON, or in words
@@ -92,6 +94,7 @@ no_explanation (a_draw q) h = refl
 no_explanation (a_serve q) h = refl
 no_explanation (a_replay q) h = refl
 no_explanation (a_pack q) h = refl
+no_explanation (a_time q) h = refl
 no_explanation (a_key state) h = absurd h
 
 pub outcome_usage : {E : Type 0} (q : Asked) (old new : Option (List ℕ)) (r : Result ℕ E) → NamesWritten q → IfOk r (λ status. Tells (refusal Usage) old new status)

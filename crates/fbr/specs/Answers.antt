@@ -6,7 +6,7 @@ use Rattle.fbr_files.specs.Outcomes.{Outcome, Tells, refusal}
 use Rattle.fbr_files.specs.Placed.{outcome_at}
 use Rattle.fbr_files.specs.Reading.{held_by}
 use Rattle.fbr_files.specs.Writing.{Sameness, Holdings}
-use Rattle.fbr_words.specs.Program.{Asked, a_bound, a_check, a_sim, a_play, an_explain, a_draw, a_serve, a_replay, a_pack, a_key, Order, app_of, over}
+use Rattle.fbr_words.specs.Program.{Asked, a_bound, a_check, a_sim, a_play, an_explain, a_draw, a_serve, a_replay, a_pack, a_time, a_key, Order, app_of, over}
 use Rattle.fbr_check.specs.Verdicts.{TellsFiles}
 use Rattle.clap.specs.Words.{Text}
 use Rattle.fbr_find.specs.Bounding.{IsTypedFault}
@@ -14,6 +14,7 @@ use Rattle.fbr_texts.specs.Parts.{Start}
 use Rattle.fbr_seals.specs.Making.{TellsKey}
 use Rattle.fbr.specs.Together.{IsJoined, IsJoinFault}
 use Rattle.fbr_static.specs.Tellings.{Begins, OrJson, OrNoted, TellsBound, TellsDraw, TellsExplain, TellsPack}
+use Rattle.fbr_time.specs.Timings.{TellsTime}
 use Rattle.fbr_runs.specs.Running.{NamesKept, NamesOne, TellsPlays, TellsReplay, TellsServed, TellsSim}
 
 -- ---- all
@@ -29,6 +30,7 @@ Answers (a_draw q) same before after input old new status = TellsDraw q same bef
 Answers (a_serve q) same before after input old new status = TellsServed q same before after old new status
 Answers (a_replay q) same before after input old new status = TellsReplay q same old new status
 Answers (a_pack q) same before after input old new status = TellsPack q same before after old new status
+Answers (a_time q) same before after input old new status = OrJson q.json (TellsTime q before old new status)
 Answers (a_key state) same before after input old new status = TellsKey old new status
 
 -- JSON is asked for
@@ -42,6 +44,7 @@ json_of (a_draw q) = false
 json_of (a_serve q) = false
 json_of (a_replay q) = q.json
 json_of (a_pack q) = false
+json_of (a_time q) = q.json
 json_of (a_key state) = false
 
 -- an explanation is asked for
@@ -55,6 +58,7 @@ explains (a_draw q) = false
 explains (a_serve q) = false
 explains (a_replay q) = false
 explains (a_pack q) = false
+explains (a_time q) = false
 explains (a_key state) = false
 
 -- an outcome is told and nothing else; or where it is explained something stands behind it, unless memory ran out
@@ -77,6 +81,7 @@ NamesWritten (a_draw q) = IsSome q.into
 NamesWritten (a_serve q) = ⊥
 NamesWritten (a_replay q) = NamesKept q.watched
 NamesWritten (a_pack q) = IsSome q.into
+NamesWritten (a_time q) = ⊥
 NamesWritten (a_key state) = ⊥
 
 -- what becomes of what is asked for of several texts: the words may be at fault where a file is to be written; else it is told why the files are no text together, or

@@ -43,6 +43,7 @@ fn is_json(request: &Request<'_>) -> bool
         Request::Serve(_) => false,
         Request::Replay(request) => request.is_json,
         Request::Pack(_) => false,
+        Request::Time(request) => request.is_json,
         Request::Key(_) => false,
     }
 }
@@ -61,6 +62,7 @@ fn explains(request: &Request<'_>) -> bool
         Request::Serve(_) => false,
         Request::Replay(_) => false,
         Request::Pack(_) => false,
+        Request::Time(_) => false,
         Request::Key(_) => false,
     }
 }
@@ -73,6 +75,7 @@ fn word_of(request: &Request<'_>) -> &'static str {
         Request::Play(_) => "play",
         Request::Explain(_) => "explain",
         Request::Replay(_) => "replay",
+        Request::Time(_) => "time",
         _ => "check",
     }
 }
@@ -104,6 +107,7 @@ fn overwrites_one<S: Sources>(files: &S, request: &Request<'_>, name: &str, name
         Request::Serve(_) => false,
         Request::Replay(request) => overwrites(files, &request.watched, name, names),
         Request::Pack(request) => is_read(files, request.into, name, names),
+        Request::Time(_) => false,
         Request::Key(_) => false,
     }
 }

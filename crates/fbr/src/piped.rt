@@ -14,21 +14,27 @@ fn count_named(words: &[&str]) -> usize {
         }
         is_value = matches!(
             *word,
-            "-o" | "--output" | "--repeats" | "--room" | "--chart"
+            "-o" | "--output"
+                | "--repeats"
+                | "--room"
+                | "--chart"
+                | "--calibration"
+                | "--from"
+                | "--to"
         );
     }
     count
 }
 
-// Whether a file of `bound`, `check`, `explain`, `draw` or `pack` is named `-`, and only one.
+// Whether a file of `bound`, `check`, `explain`, `draw`, `pack` or `time` is named `-`, and only one.
 fn is_named(words: &[&str]) -> bool {
     match words.get(1).copied() {
-        Some("bound" | "check" | "explain" | "draw" | "pack") => count_named(words) == 1,
+        Some("bound" | "check" | "explain" | "draw" | "pack" | "time") => count_named(words) == 1,
         _ => false,
     }
 }
 
-/// What standard input holds, where words name it as a file, `-`, of `bound`, `check`, `explain`, `draw` or `pack`. No file is named so where there is no such word, or
+/// What standard input holds, where words name it as a file, `-`, of `bound`, `check`, `explain`, `draw`, `pack` or `time`. No file is named so where there is no such word, or
 /// more than one; and then it is not read.
 pub fn input_named<I: Read>(
     alloc: Global,

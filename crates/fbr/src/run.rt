@@ -14,6 +14,7 @@ use fbr_files::Sources;
 use fbr_runs::{play, replay, serve, sim};
 use fbr_seals::make_key;
 use fbr_static::{bound, check, check_input, draw, explain, pack, tell_misread};
+use fbr_time::time;
 use fbr_words::{Request, read_words};
 use std::io;
 use std::io::{Read, Write};
@@ -53,6 +54,7 @@ pub fn answer<
         Request::Serve(request) => serve(rt, request, files, output, errors),
         Request::Replay(request) => replay(alloc, request, files, input, output, errors),
         Request::Pack(request) => pack(alloc, request, files, output, errors),
+        Request::Time(request) => time(alloc, request, files, output, errors),
         Request::Key(state) => make_key(rt, state, files, output, errors),
     }
 }

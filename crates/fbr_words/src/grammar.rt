@@ -512,10 +512,7 @@ fn timed<'a>(alloc: Global) -> Result<Command<'a>, AllocError>
     let help_from = "The instance with the arrival from which a way is told";
     let help_to = "The instance to which it is told";
     let both = over_files(alloc, "time", about);
-    let priced = with(
-        both,
-        number(alloc, "calibration", "FILE", help_prices),
-    );
+    let priced = with(both, number(alloc, "calibration", "FILE", help_prices));
     let begun = with(priced, number(alloc, "from", "PATH", help_from));
     let ended = with(begun, number(alloc, "to", "PATH", help_to));
     with(ended, json(alloc))
