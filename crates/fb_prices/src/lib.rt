@@ -2,8 +2,8 @@
 //! Contracts: each primitive has a number and a word, and a list of prices says one price for each (`Prices::price`).
 #![tactic(auto)]
 
-mod primitive;
 mod prices;
+mod primitive;
 
 pub use prices::Prices;
 pub use primitive::{PRIMITIVES, Primitive};

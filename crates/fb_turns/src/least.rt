@@ -31,11 +31,7 @@ fn memory(fault: NoBound) -> AllocError
 }
 
 /// Each node's number after all that it demands: where a certificate fits, demands go in no circle.
-pub fn ordered(
-    alloc: Global,
-    flat: &Flat,
-    numbering: &Numbering,
-) -> Result<Vec<usize>, AllocError>
+pub fn ordered(alloc: Global, flat: &Flat, numbering: &Numbering) -> Result<Vec<usize>, AllocError>
     requires { (s : System) × (cert : Certificate) × IsNumbered None flat.now.devices.items numbering.now s × Fits s cert }
     ensures { (s : System) → IsNumbered None flat.now.devices.items numbering.now s → IfOk result (λ order. FulfilsAll None numbering.now s order.items) }
 {
