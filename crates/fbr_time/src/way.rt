@@ -210,9 +210,9 @@ pub(crate) fn put_way(found: &Found<'_>, turns: u64, writing: &mut Writing) {
         }
         writing.put(leaf.path.as_str());
     }
-    writing.put("\n     in the ");
+    writing.put("\n     at the earliest in dispatch ");
     writing.show(&found.leaves.len());
-    writing.put(". dispatch at the earliest, and within ");
+    writing.put(", and within ");
     writing.show(&turns);
     writing.put(" turns from admission\n");
 }

@@ -1,0 +1,1 @@
+"""fbr-calibrate: what each thing that a device does takes at most on this machine."""
