@@ -19,7 +19,7 @@ TOP = pathlib.Path(__file__).resolve().parent.parent
 sys.path.insert(0, str(TOP / "tools"))
 
 from fbrcalibrate.bench import Bench  # noqa: E402  (the path has to be set first)
-from fbrcalibrate.calibration import measure, validate  # noqa: E402
+from fbrcalibrate.calibration import measure, scaled, validate  # noqa: E402
 from fbrcalibrate.prices import AROUND, digest_of, listed  # noqa: E402
 
 CALL = "fb_device::device::Device::dispatch"
@@ -156,6 +156,7 @@ def main():
         bench = Counting(words.program, digest_of(words.program), "callgrind", folder, 0.0)
         prices = measure(bench, 1)
         worst = validate(bench, prices)
+        prices = scaled(prices, max(1.0, worst.ratio))
         ratios, refused, above = {True: [], False: []}, 0, []
         for number in range(words.blocks):
             block = Block(words.seed * 100_000 + number)

@@ -1,0 +1,9 @@
+pub mod Lists
+pub mod Told
+pub mod Emitted
+pub mod Paying
+pub mod Tariffs
+pub mod Systems
+pub mod Columns
+pub mod Ready
+pub mod Bounding

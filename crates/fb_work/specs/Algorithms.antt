@@ -1,6 +1,6 @@
 -- What the algorithms of leaves cost with their calls.
 -- This project's profile.
-use Rattle.std.specs.Prelude.{ℕ, ◌≡◌, ◌+◌, ◌<◌, List, [], map, Option, None, Some}
+use Rattle.std.specs.Prelude.{ℕ, ◌≡◌, ◌+◌, ◌<◌, List, [], map, Option}
 use Rattle.std.specs.List.{Any}
 use Rattle.fb_prices.specs.declared.primitive.Primitive.TheVariants as p
 use Rattle.fb_model.specs.Names.{Name}

@@ -27,12 +27,7 @@ use st_types::Algo;
 use std::alloc::{AllocError, Global};
 
 // What an algorithm costs with its call.
-fn call_work(
-    alloc: Global,
-    prices: &Prices,
-    algorithm: &Algo,
-    rows: &Ranges,
-) -> Result<u64, NoWork>
+fn call_work(alloc: Global, prices: &Prices, algorithm: &Algo, rows: &Ranges) -> Result<u64, NoWork>
     ensures value { IfOk result (λ n. n ≡ called (prices_of prices.now) (spans_of rows.now) (commands_of algorithm.now.statements.items)) }
     ensures dear { IfErr result (OrMemory (most_steps < called (prices_of prices.now) (spans_of rows.now) (commands_of algorithm.now.statements.items))) }
 {
@@ -67,10 +62,7 @@ fn block_costs(
         let Some((_, algorithm)) = procedures.get_index(index) else {
             return Ok(costs);
         };
-        add(
-            call_work(alloc, prices, algorithm, rows)?,
-            &mut costs,
-        )?;
+        add(call_work(alloc, prices, algorithm, rows)?, &mut costs)?;
     }
     Ok(costs)
 }

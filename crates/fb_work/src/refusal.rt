@@ -16,9 +16,9 @@ pub enum NoWork {
 }
 
 impl From<AllocError> for NoWork {
-    fn from(_fault: AllocError) -> NoWork
-        ensures { result ≡ OutOfMemory }
-    {
+    ghost from_gives = { λ _ e. e ≡ OutOfMemory };
+
+    fn from(_: AllocError) -> NoWork {
         NoWork::OutOfMemory
     }
 }

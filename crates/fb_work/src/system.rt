@@ -10,7 +10,6 @@ ghost use Rattle.fb_model.specs.Certificates.{all_leaves};
 ghost use Rattle.fb_model_laws.specs.Leaves.{IsClosed};
 ghost use Rattle.fb_model_laws.specs.Words.{IsWordyDevice, IsWordyLeaf};
 ghost use Rattle.fb_cert.specs.Views.{certificate_of};
-ghost use Rattle.fb_check_ranges.specs.Places.{leaves_in};
 ghost use Rattle.fb_flat.specs.Tables.{AreDevices, IsDevice, IsLeaf};
 ghost use Rattle.fb_find_demands.specs.Leaves.{AreClosed};
 ghost use Rattle.fb_prices.specs.Words.{prices_of};
