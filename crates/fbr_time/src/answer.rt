@@ -6,7 +6,7 @@ ghost use Rattle.fbr_words.specs.Requests.{timing_of};
 ghost use Rattle.fbr_static.specs.Tellings.{OrJson};
 ghost use Rattle.fbr_time.specs.Timings.{TellsTime};
 
-use crate::counted::{Measures, Timed, measures_of, timed};
+use crate::counted::{Measures, Timed, measures_of, timed_of};
 use crate::list::{ListFault, PriceList, read_list};
 use crate::report::{report_object, resource_object};
 use crate::table::{put_meaning, put_table};
@@ -185,7 +185,7 @@ fn all_timed<'a>(
     let mut all = Vec::new(alloc);
     for device in &verified.flat().devices {
         for resource in &device.resources {
-            let one = timed(alloc, verified, measures, list, device, resource)?;
+            let one = timed_of(alloc, verified, measures, list, device, resource)?;
             all.push(one)?;
         }
     }

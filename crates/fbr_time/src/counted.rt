@@ -110,7 +110,7 @@ struct View<'a> {
 }
 
 // The time of an event, where there are prices.
-fn took(
+fn took_of(
     view: View<'_>,
     leaf: &Leaf,
     event: &str,
@@ -127,14 +127,14 @@ fn took(
 }
 
 // The row of an arrival.
-fn row(view: View<'_>, leaf: &Leaf, event: &str) -> Result<Row, AllocError> {
+fn row_of(view: View<'_>, leaf: &Leaf, event: &str) -> Result<Row, AllocError> {
     let alloc = view.alloc;
     let dispatches = dispatches_of(alloc, view.verified, view.counted, leaf, event)?;
     Ok(Row {
         path: joined(alloc, leaf.path.as_str(), event)?,
         dispatches,
         work: view.measures.work.of(alloc, leaf.path.as_str(), event)?,
-        took: took(view, leaf, event, dispatches)?,
+        took: took_of(view, leaf, event, dispatches)?,
     })
 }
 
@@ -143,7 +143,7 @@ fn rows(view: View<'_>) -> Result<Vec<Row>, AllocError> {
     let mut all = Vec::new(view.alloc);
     for leaf in &view.counted.resource.leaves {
         if let Some(event) = arrival_of(leaf) {
-            all.push(row(view, leaf, event)?)?;
+            all.push(row_of(view, leaf, event)?)?;
         }
     }
     Ok(all)
@@ -171,7 +171,7 @@ fn overhead(
 }
 
 /// What the arrivals of a resource take.
-pub(crate) fn timed<'a>(
+pub(crate) fn timed_of<'a>(
     alloc: Global,
     verified: &Verified,
     measures: &Measures,
