@@ -25,7 +25,7 @@ module _ {E : Type 0} (q : Timing) (before : Holdings) (old new : Option (List �
   times_accepted v h = by r
     where
       by : (r : Result ℕ E) → IfOk r (λ status. OrJson q.json (TellsTime q before old new status))
-      by (Ok status) = inr (times_it (named (Ok tt) (files_accepted one two held_one (before q.cert) v tt h)))
+      by (Ok status) = inr (times_it (named (Ok tt) (files_accepted {A = Unit {0}} one two held_one (before q.cert) v tt h)))
       by (Err e) = tt
 
   pub times_refused : (f : Fault) → IsVerified one two held_one (before q.cert) (Err f) → IfOk r (λ status. OrJson q.json (Tells (refusal f) old new status))
