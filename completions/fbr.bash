@@ -16,7 +16,7 @@ _fbr() {
         check) options="--with --strict --allow --json --all --help" ;;
         key) options="--state --help" ;;
         pack) options="--with --output --help" ;;
-        time) options="--with --calibration --from --to --json --help" ;;
+        time) options="--with --calibration --rate --from --to --json --help" ;;
         help) mapfile -t COMPREPLY < <(compgen -W "bound check sim play explain draw serve replay pack time key help" -- "$word") && return ;;
     esac
     if [ "${word:0:1}" = - ]; then

@@ -40,6 +40,7 @@ complete -c fbr -n '__fish_seen_subcommand_from serve' -l keys -r -d 'takes only
 complete -c fbr -n '__fish_seen_subcommand_from serve' -l state -r -d 'holds the counters over restarts'
 complete -c fbr -n '__fish_seen_subcommand_from serve' -l unsealed -d 'checks nothing of what is received'
 complete -c fbr -n '__fish_seen_subcommand_from time' -l calibration -r -d 'puts in the prices of this machine'
+complete -c fbr -n '__fish_seen_subcommand_from time' -l rate -x -d 'says how often events come'
 complete -c fbr -n '__fish_seen_subcommand_from time' -x -l from -d 'tells the way from the arrival of this instance'
 complete -c fbr -n '__fish_seen_subcommand_from time' -x -l to -d 'tells the way to this instance'
 complete -c fbr -n '__fish_seen_subcommand_from key' -l state -r -d 'begins this new state file too'

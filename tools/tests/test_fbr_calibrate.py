@@ -20,7 +20,7 @@ from fbrcalibrate.prices import AROUND, WORDS, digest_of, listed
 TANK = TOP / "examples" / "tank" / "tank.fb"
 PRIMITIVES = TOP / "crates" / "fb_prices" / "src" / "primitive.rt"
 PRICES = dict.fromkeys(WORDS, 2000)
-NO_LINE = "is none of a list: a word and a number of picoseconds"
+NO_LINE = "is not understood: write a word and a number of picoseconds"
 
 
 class OfMicroBlocks(unittest.TestCase):
@@ -108,7 +108,7 @@ class OfLists(unittest.TestCase):
         self.is_refused("JITTER 1000\n", "", "the prices have no line `JITTER ..`")
 
     def test_a_word_stands_twice(self) -> None:
-        self.is_refused("SAMPLE 2000\n", "SAMPLE 2000\nDISPATCH 1\n", "line 6 of the prices says one again")
+        self.is_refused("SAMPLE 2000\n", "SAMPLE 2000\nDISPATCH 1\n", "line 6 of the prices has the word of an earlier line")
 
     def test_a_number_that_is_none(self) -> None:
         self.is_refused("DISPATCH 2000\n", "DISPATCH -1\n", f"line 4 of the prices {NO_LINE}")

@@ -6,13 +6,13 @@ mod live;
 mod people;
 mod stack;
 
-ghost use Rattle.std.specs.Prelude.{◌≡◌, ◌≤◌, IfOk, MatchResult};
-ghost use Rattle.std.specs.Process.{exit_status};
+ghost use Rattle.std.specs.Prelude.{◌≤◌, IfOk};
 
 use crate::live::Live;
 use crate::people::People;
 use fbr::{command, input_named};
 use fbr_files::Disk;
+use fbr_status::{exit_code, outcome};
 use fbr_tell::paint;
 use std::alloc::AllocError;
 use std::env::{Env, FillError, VarError};
@@ -62,18 +62,6 @@ fn tell_waiting(rt: &HostRuntime, words: &[&str]) -> io::Result<()> {
         }
     }
     Ok(())
-}
-
-// The status of a command whose output has gone out, and 3 where it has not.
-fn outcome(status: u8, flushed: io::Result<()>) -> u8
-    requires { status ≤ 4 }
-    ensures said { MatchResult flushed (λ _. result ≡ status) (λ _. result ≡ 3) }
-    ensures most { result ≤ 4 }
-{
-    match flushed {
-        Ok(()) => status,
-        Err(_) => 3,
-    }
 }
 
 // Tells people of a file that was not read, or of output that failed.
@@ -224,16 +212,6 @@ fn status(rt: &HostRuntime) -> io::Result<u8>
     errors.flush().unwrap_or(());
     tell_failure(status, &mut rt.stderr()).unwrap_or(());
     Ok(status)
-}
-
-// The status of the process: the command's, and 4 where there was no memory for its words.
-fn exit_code(status: io::Result<u8>) -> ExitCode
-    ensures { MatchResult status (λ said. exit_status result ≡ said) (λ _. exit_status result ≡ 4) }
-{
-    match status {
-        Ok(status) => ExitCode::from(status),
-        Err(_) => ExitCode::from(4),
-    }
 }
 
 fn main(rt: HostRuntime) -> ExitCode {

@@ -14,7 +14,7 @@ use fbr_find::read_wanted;
 use fbr_json::Report;
 use fbr_play::{Played, play_all};
 use fbr_score::Score;
-use fbr_sim::{Simulated, run_watched};
+use fbr_scripts::{Simulated, run_watched};
 use fbr_static::{Files, Told, clash_told, given_of, print_memory, print_told, refused, tell};
 use fbr_words::{Bound, Play, Sim, Watched};
 use std::alloc::{AllocError, Global};

@@ -5,12 +5,12 @@ ghost use Rattle.std.specs.Io.Buffered.{reader_remaining};
 ghost use Rattle.fbr_files.specs.declared.fault.Fault.TheVariants.{Memory};
 ghost use Rattle.fbr_sim.specs.Simulation.{TellsEnd, IsFresh, TellsRunFrom, TellsScript};
 
-use crate::causes::Causes;
 use fb_device::share;
 use fb_script::{End, simulate};
 use fb_verified::Verified;
 use fb_world::World;
 use fbr_files::{Fault, print_outcome};
+use fbr_scripts::Causes;
 use std::alloc::Global;
 use std::io;
 use std::io::{BufReader, Read, Write};

@@ -86,7 +86,7 @@ is_pack = refl
 
 -- and such are times on the way to a block
 is_time : request_of (codes "fbr" ∷ codes "time" ∷ codes "cell.fb" ∷ codes "cell.cert" ∷ codes "--from" ∷ codes "LIMIT" ∷ codes "--to" ∷ codes "VALVE" ∷ [])
-    ≡ Some (record { texts = []; asked = a_time (record { app = codes "cell.fb"; meant = None; cert = codes "cell.cert"; prices = None; way = Some (codes "LIMIT", codes "VALVE"); json = false }) })
+    ≡ Some (record { texts = []; asked = a_time (record { app = codes "cell.fb"; meant = None; cert = codes "cell.cert"; prices = None; rates = None; way = Some (codes "LIMIT", codes "VALVE"); json = false }) })
 unfolding clap_on_literals
 is_time = refl
 

@@ -153,7 +153,8 @@ pack = with_rule (over_file (codes "pack")) output
 
 -- `time`, its two files, the file of prices, both ends of a way, and `--json`
 abbrev pub time : App
-time = with_rule (with_rule (with_rule (with_rule (over_files (codes "time")) (number (codes "calibration"))) (number (codes "from"))) (number (codes "to"))) json
+time =
+    with_rule (with_rule (with_rule (with_rule (with_rule (over_files (codes "time")) (number (codes "calibration"))) (number (codes "rate"))) (number (codes "from"))) (number (codes "to"))) json
 
 -- `key`, and the state that it begins
 abbrev pub key : App
@@ -569,12 +570,13 @@ packing_in rows = packing_with (first_of (codes "APP") rows) (into_of rows)
 
 -- ---- what `time` is asked for
 
--- the files of an application and of its certificate; the file of prices, and both ends of a way, where these are named; and whether JSON is printed
+-- the files of an application and of its certificate; the file of prices, the rates of arrivals, and both ends of a way, if they are given; and whether JSON is printed
 pub record Timing : Type 0 where
   pub app : Text
   pub meant : Option Text
   pub cert : Text
   pub prices : Option Text
+  pub rates : Option Text
   pub way : Option (Text × Text)
   pub json : Bool
 
@@ -585,13 +587,13 @@ way_by (Some from) (Some to) = Some (Some (from, to))
 way_by None (Some to) = None
 way_by (Some from) None = None
 
-abbrev pub timing_with : Option Text → Option Text → Option Text → Option (Option (Text × Text)) → Bool → Option Timing
-timing_with (Some app) (Some cert) prices (Some way) json = Some (record { app = app; meant = None; cert = cert; prices = prices; way = way; json = json })
-timing_with app cert prices way json = None
+abbrev pub timing_with : Option Text → Option Text → Option Text → Option Text → Option (Option (Text × Text)) → Bool → Option Timing
+timing_with (Some app) (Some cert) prices rates (Some way) json = Some (record { app = app; meant = None; cert = cert; prices = prices; rates = rates; way = way; json = json })
+timing_with app cert prices rates way json = None
 
 abbrev pub timing_in : List Row → Option Timing
 timing_in rows =
-    timing_with (first_of (codes "APP") rows) (first_of (codes "CERT") rows) (first_of (codes "calibration") rows)
+    timing_with (first_of (codes "APP") rows) (first_of (codes "CERT") rows) (first_of (codes "calibration") rows) (first_of (codes "rate") rows)
     (way_by (first_of (codes "from") rows) (first_of (codes "to") rows)) (is_set (first_of (codes "json") rows))
 
 -- ---- what the program is asked for

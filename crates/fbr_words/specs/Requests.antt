@@ -140,7 +140,7 @@ way_of w = (w.from.now, w.to.now)
 
 abbrev pub timing_of : TimeRequest → Timing
 timing_of t =
-    record { app = t.app.now; meant = meant_of t.meant; cert = t.cert.now; prices = option_map (λ name. name.now) t.prices; way = option_map way_of t.way; json = t.is_json }
+    record { app = t.app.now; meant = meant_of t.meant; cert = t.cert.now; prices = option_map (λ name. name.now) t.prices; rates = option_map (λ text. text.now) t.rates; way = option_map way_of t.way; json = t.is_json }
 
 abbrev pub asked_of : Request → Asked
 asked_of (Bound b) = a_bound (sought_of b)

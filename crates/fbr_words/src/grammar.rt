@@ -509,11 +509,14 @@ fn timed<'a>(alloc: Global) -> Result<Command<'a>, AllocError>
 {
     let about = "Tells how many dispatches, how much work and how long each event takes at most";
     let help_prices = "The prices of this machine, as `fbr-calibrate` wrote them";
+    let help_rate =
+        "How often events come at most, as `PUMP.START=10/s,TANK.LEVEL=2/min`: tells the response beside these";
     let help_from = "The instance with the arrival from which a way is told";
     let help_to = "The instance to which it is told";
     let both = over_files(alloc, "time", about);
     let priced = with(both, number(alloc, "calibration", "FILE", help_prices));
-    let begun = with(priced, number(alloc, "from", "PATH", help_from));
+    let rated = with(priced, number(alloc, "rate", "RATES", help_rate));
+    let begun = with(rated, number(alloc, "from", "PATH", help_from));
     let ended = with(begun, number(alloc, "to", "PATH", help_to));
     with(ended, json(alloc))
 }

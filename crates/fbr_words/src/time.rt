@@ -16,7 +16,7 @@ pub struct Way<'a> {
     pub to: &'a str,
 }
 
-/// The file of an application and that of its certificate; the file of the prices, where one is named; a way, where one is asked for; and whether JSON is printed.
+/// The file of an application and that of its certificate; the file of the prices, the rates of arrivals and a way, if they are given; and whether JSON is printed.
 #[derive(Clone, Copy)]
 pub struct Time<'a> {
     pub app: &'a str,
@@ -24,6 +24,8 @@ pub struct Time<'a> {
     pub meant: Option<Meant<'a>>,
     pub cert: &'a str,
     pub prices: Option<&'a str>,
+    /// How often events come at arrivals, as `PUMP.START=10/s,PUMP.STOP=1/min`.
+    pub rates: Option<&'a str>,
     pub way: Option<Way<'a>>,
     pub is_json: bool,
 }
@@ -56,6 +58,7 @@ pub fn time_in<'a>(words: &ArgMatches<'a>) -> Option<Time<'a>>
         meant: None,
         cert: given(words, "CERT")?,
         prices: given(words, "calibration"),
+        rates: given(words, "rate"),
         way: way_by(given(words, "from"), given(words, "to"))?,
         is_json: flag(words, "json"),
     })

@@ -19,7 +19,7 @@ const LONGEST: usize = 64;
 
 /// Who tells people, on standard error, which cause it was, and which roots are not bounded.
 #[derive(Drop)]
-pub(crate) struct Causes<'e, E> {
+pub struct Causes<'e, E> {
     alloc: Global,
     stations: Vec<Station>,
     /// The roots that lines have asked for, and of which nothing is told yet.
@@ -123,7 +123,7 @@ fn put_value(place: u16, value: i64, of_type: ElemType, writing: &mut Writing) {
 
 impl<'e, E: Write> Causes<'e, E> {
     /// Who tells people of a script over a system. Where memory runs out, less is told.
-    pub(crate) fn of(alloc: Global, flat: &Flat, errors: &'e mut E) -> Causes<'e, E> {
+    pub fn of(alloc: Global, flat: &Flat, errors: &'e mut E) -> Causes<'e, E> {
         let stations = match stations_of(alloc, flat) {
             Ok(stations) => stations,
             Err(_) => Vec::new(alloc),
@@ -230,7 +230,7 @@ impl<'e, E: Write> Causes<'e, E> {
 
     /// Tells, once for each root that a line asked for, that its FAR is no bound, if one of its datagrams without a stamp was admitted
     /// more often than REPEATS says.
-    pub(crate) fn tell_unbound(&mut self, world: &World) {
+    pub fn tell_unbound(&mut self, world: &World) {
         let mut behind = 0;
         for _ in 0..usize::MAX {
             if self.roots.is_empty() {

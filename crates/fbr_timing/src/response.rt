@@ -1,7 +1,7 @@
 //! How long until all has ended, from admission.
 //!
-//! In a turn a device sets its clock, takes 16 datagrams at most, and dispatches each resource once. What has no other cause beside it ends with its last dispatch, and
-//! takes its own time and that of so many turns besides; what has, ends after its longest chain of emissions, each of which waits for a whole queue.
+//! In a turn a device sets its clock, takes at most 16 datagrams, and dispatches each resource once. An event with no other cause beside it ends with its last dispatch: it
+//! takes the time of its own dispatches, and so many turns besides. An event with others beside it ends after its longest chain of emissions, each of which waits for a whole queue.
 
 use crate::list::Around;
 use fbr_explain::Dispatches;
@@ -15,7 +15,7 @@ pub(crate) struct Sides {
     pub around: Around,
     /// How many resources the device has.
     pub resources: usize,
-    /// The dearest dispatches of its other resources.
+    /// What the dearest dispatches of its other resources take.
     pub others: u64,
 }
 
@@ -30,7 +30,7 @@ pub(crate) fn overhead_of(sides: Sides) -> u64 {
         .saturating_add(sides.others)
 }
 
-/// How long an event takes from admission, where its dispatches take this time together, the dearest event of its resource this, and a turn this besides.
+/// How long an event takes from admission, if its dispatches take `time` together, the dearest event of its resource takes `dearest`, and a turn takes `overhead` besides.
 pub(crate) fn response_of(dispatches: Dispatches, time: u64, dearest: u64, overhead: u64) -> u64 {
     if dispatches.is_alone {
         return time.saturating_add(dispatches.end.saturating_mul(overhead));

@@ -2,6 +2,7 @@
 
 use crate::counted::{Row, Timed};
 use crate::list::PriceList;
+use crate::settled::Settled;
 use crate::way::Found;
 use fbr_objects::{List, Object};
 use std::alloc::Global;
@@ -11,7 +12,8 @@ const SCHEMA: u64 = 1;
 
 // What one event at an arrival takes.
 fn row_object(alloc: Global, row: &Row) -> Object {
-    let dispatches = row.dispatches;
+    let most = row.most;
+    let dispatches = most.dispatches;
     let mut counts = Object::new(alloc);
     counts.number("all", dispatches.all);
     counts.number("in_a_row", dispatches.in_a_row);
@@ -20,11 +22,24 @@ fn row_object(alloc: Global, row: &Row) -> Object {
     let mut object = Object::new(alloc);
     object.text("path", row.path.as_str());
     object.object("dispatches", counts);
-    object.number("work", row.work);
-    if let Some(took) = row.took {
+    object.number("work", most.work);
+    if let Some(took) = most.took {
         object.number("time_ps", took.time);
         object.number("response_ps", took.response);
     }
+    if let Some(comes) = row.comes {
+        object.maybe_number("apart_ps", comes.apart());
+        object.maybe_number("at_rates_ps", row.settled);
+    }
+    object
+}
+
+// What becomes of a resource at the rates.
+fn settled_object(alloc: Global, settled: Settled) -> Object {
+    let mut object = Object::new(alloc);
+    object.flag("holds", settled.holds);
+    object.number("depth", settled.depth);
+    object.number("enough", settled.enough);
     object
 }
 
@@ -38,6 +53,9 @@ pub(crate) fn resource_object(alloc: Global, timed: &Timed<'_>) -> Object {
     object.text("path", timed.resource.path.as_str());
     object.maybe_number("turn_ps", timed.overhead);
     object.list("arrivals", list);
+    if let Some(settled) = timed.settled {
+        object.object("at_rates", settled_object(alloc, settled));
+    }
     object
 }
 
