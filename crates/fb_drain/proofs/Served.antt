@@ -9,6 +9,7 @@ use Rattle.fb_model.specs.Devices.{Machine, put, Answer, Admitted, Denied, Expir
 use Rattle.fb_model.specs.Headline.{IsSound}
 use Rattle.fb_model.specs.World.{World, WorldEvent, WorldAnswer, Answered, Unknown, At_device, A_dispatch, WorldHappens, WorldRun}
 use Rattle.fb_model.proofs.Ending.{drains}
+use Rattle.fb_model.proofs.Lists.{all_append}
 use Rattle.fb_verified.specs.declared.verified.Verified.{Verified}
 use Rattle.fb_verified.specs.Checked.{system_in, certificate_in}
 use Rattle.fb_device_state.specs.Sessions.{Session}
@@ -18,10 +19,6 @@ use Rattle.fb_world.specs.Loads.{IsDeviceAt}
 use Rattle.fb_drain.specs.Draining.{HasRun, weight_at, IsServed, IsIdle, AreTold, IsDrained, HasStopped, IsSoundAt, WasTold, IsOneServed}
 
 -- ---- one after another
-
-all_append : {X : Type 0} (P : X → Type 0) (xs ys : List X) → AllByRecursion P xs → AllByRecursion P ys → AllByRecursion P (xs ++ ys)
-all_append P [] ys h k = k
-all_append P (x ∷ xs) ys h k = (h.0, all_append P xs ys h.1 k)
 
 pub told_append : {W : Type 0} (sees : W → WorldAnswer → W → Type 0) (as' bs : List WorldAnswer) (v m v' : W) → AreTold sees v as' m → AreTold sees m bs v' → AreTold sees v (as' ++ bs) v'
 told_append sees [] bs v m v' h k = subst (λ u. AreTold sees u bs v') h k

@@ -21,10 +21,6 @@ still_denies repeats s path (Cycle places) h w cert d fits = absurd h
 still_denies repeats s path (NoRange other) h w cert d fits = absurd w
 still_denies repeats s path (Limit resource) h w cert d fits = absurd w
 
-pub ok_weaker : {X E : Type 0} (P Q : X → Type 0) → ((x : X) → P x → Q x) → (r : Result X E) → IfOk r P → IfOk r Q
-ok_weaker P Q g (Ok x) h = g x h
-ok_weaker P Q g (Err e) h = tt
-
 -- where something is not clear under the finder's ranges, what is found is found by searching
 pub unclear_told : {X E : Type 0} (view : X → Certificate) (path : String Global) (repeats : Option ℕ) (s : System) (r : Result X E) → IsNoBound repeats s (NoRange path) → IfOk r (λ c. IsSearched repeats s (view c))
 unclear_told view path repeats s (Ok c) h = inr (path, h)

@@ -22,7 +22,8 @@ use Rattle.fb_find_demands.specs.Rights.{numbers_of, numbered}
 use Rattle.fb_find.specs.Given.{nodes_in}
 use Rattle.fb_turns.specs.Counting.{own_of, term_right, chain_rights, counts_in, AllFit}
 use Rattle.fb_turns.specs.Counting.{all_right as rest_right}
-use Rattle.fb_turns.proofs.Demanding.{all_append, own_node, IsCounted, leaves_count, devices_fit, devices_met}
+use Rattle.fb_model.proofs.Lists.{all_append}
+use Rattle.fb_turns.proofs.Demanding.{own_node, IsCounted, leaves_count, devices_fit, devices_met}
 use Rattle.fb_turns.proofs.Owning.{IsOwned, bare_owned, own_known, own_least, own_most}
 
 -- counts as numbers of nodes

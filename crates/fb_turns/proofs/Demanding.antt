@@ -8,7 +8,7 @@ use Rattle.fb_model.specs.Services.{service_events, can_emit, init}
 use Rattle.fb_model.specs.Wires.{Kind, Charted, Serviced, Leaf, leaves}
 use Rattle.fb_model.specs.Charts.{actions_of, is_open, emission}
 use Rattle.fb_model.specs.Certificates.{reached, event_names, all_leaves}
-use Rattle.fb_model.proofs.Lists.{all_weaker}
+use Rattle.fb_model.proofs.Lists.{all_append, all_weaker}
 use Rattle.fb_model.proofs.Placed.{all_left, all_right}
 use Rattle.fb_model.specs.Demands.{Node, state, event, channel, Demand, Ground, emitted, of_state, of_free, free_demand, of_crossing, crossing_demand, of_input, of_chart, sent, of_dispatch, of_kind, bare, bare_demands}
 use Rattle.fb_model_turns.specs.Turns.{Counts, Join, joined, caused, outputs_of, StateCounts, FreeCounts, CrossingCounts, InputCounts, ChartCounts, ServiceCounts, KindCounts, DispatchesFit}
@@ -24,10 +24,6 @@ all_flat P f (x ∷ xs) h = (all_left P (f x) (flat_map f xs) h, all_flat P f xs
 pub all_mapped : {X Y : Type 0} (P : Y → Type 0) (f : X → Y) (xs : List X) → AllByRecursion P (map f xs) → AllByRecursion (λ x. P (f x)) xs
 all_mapped P f [] h = tt
 all_mapped P f (x ∷ xs) h = (h.0, all_mapped P f xs h.1)
-
-pub all_append : {X : Type 0} (P : X → Type 0) (xs ys : List X) → AllByRecursion P xs → AllByRecursion P ys → AllByRecursion P (xs ++ ys)
-all_append P [] ys h k = k
-all_append P (x ∷ xs) ys h k = (h.0, all_append P xs ys h.1 k)
 
 all_to_flat : {X Y : Type 0} (P : Y → Type 0) (f : X → List Y) (xs : List X) → AllByRecursion (λ x. AllByRecursion P (f x)) xs → AllByRecursion P (flat_map f xs)
 all_to_flat P f [] h = tt

@@ -18,7 +18,8 @@ use Rattle.fb_find_demands.specs.declared.numbered.Numbering.{Numbering}
 use Rattle.fb_find_demands.specs.Rights.{numbers_of}
 use Rattle.fb_find.specs.Given.{nodes_in}
 use Rattle.fb_turns.specs.Counting.{own_of}
-use Rattle.fb_turns.proofs.Demanding.{all_append, own_node}
+use Rattle.fb_model.proofs.Lists.{all_append}
+use Rattle.fb_turns.proofs.Demanding.{own_node}
 
 -- ---- lists
 

@@ -9,14 +9,13 @@ use Rattle.fb_model.specs.Certificates.{Certificate, steps_of, Fits, DeviceFits,
 use Rattle.fb_model.specs.CertificateText.{most_steps}
 use Rattle.fb_model.specs.Demands.{Node, state, event, channel, Demand, of_kind, bare, bare_demands}
 use Rattle.fb_model.specs.Columns.{number_of, ground_of, demands, MeetAll}
-use Rattle.fb_model.proofs.Lists.{all_weaker}
+use Rattle.fb_model.proofs.Lists.{all_append, all_weaker}
 use Rattle.fb_model_laws.specs.Likeness.{AreLike, AreGroundsAlike}
 use Rattle.fb_model_laws.proofs.Likening.{like_append, kind_alike, met_alike}
 use Rattle.fb_model_laws.proofs.Meeting.{column_meets}
 use Rattle.fb_model_laws.proofs.Walks.{kind_leads, nothing_worked, flat_append}
 use Rattle.fb_model_texts.specs.Small.{AreSmall, IsSmall}
 use Rattle.fb_model_texts.proofs.Small.{amount_small}
-use Rattle.fb_turns.proofs.Demanding.{all_append}
 
 -- ---- what costs nothing is met with what does
 

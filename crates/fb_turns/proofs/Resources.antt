@@ -160,10 +160,6 @@ module _ (cert : Certificate) (d : system.Device) (q : ℕ) (r : system.Resource
 
 -- ---- answers
 
-pub ok_weaker : {X E : Type 0} (P Q : X → Type 0) → ((x : X) → P x → Q x) → (r : Result X E) → IfOk r P → IfOk r Q
-ok_weaker P Q f (Ok x) h = f x h
-ok_weaker P Q f (Err e) h = tt
-
 pub ok_both : {X E : Type 0} (P Q R : X → Type 0) → ((x : X) → P x → Q x → R x) → (r : Result X E) → IfOk r P → IfOk r Q → IfOk r R
 ok_both P Q R f (Ok x) h k = f x h k
 ok_both P Q R f (Err e) h k = tt

@@ -4,7 +4,7 @@ use Rattle.fb_model.specs.Finding.{AreTaken, IsFoundWithin}
 use Rattle.fb_find.proofs.Taking.{found_with}
 use Rattle.fb_find_search.specs.Searching.{IsFoundSomehow, IsRanged}
 use Rattle.fb_find_search.proofs.Keeping.{first_same, given_stand, none_keeping}
-use Rattle.fb_find_search.proofs.Still.{ok_weaker}
+use Rattle.fb_check_rows.proofs.Loops.{ok_weaker}
 use Rattle.fb_find_search.proofs.searching.find_keeping.Goals as goal
 
 pub returns-in-Ok-clause-found : goal.returns-in-Ok-clause-found

@@ -6,7 +6,8 @@ use Rattle.fb_types_services.specs.Views.{service_of}
 use Rattle.fb_flat.specs.Leaves.{kind_of}
 use Rattle.fb_flat.specs.Tables.{IsLeaf}
 use Rattle.fb_turns.specs.Room.{ArePast, IsPast}
-use Rattle.fb_turns.proofs.Resources.{ok_weaker, served}
+use Rattle.fb_check_rows.proofs.Loops.{ok_weaker}
+use Rattle.fb_turns.proofs.Resources.{served}
 use Rattle.fb_turns.proofs.alone.leaf_is_past.Goals as goal
 
 pub returns-in-Served : goal.returns-in-Served

@@ -11,7 +11,7 @@ use Rattle.fb_model_turns.specs.Turns.{added}
 use Rattle.fb_turns.specs.Counting.{all_right, counts_in, AreLeastCounts}
 use Rattle.fb_turns.proofs.Counted.{counted}
 use Rattle.fb_turns.proofs.Ready.{closed, all_column, all_meet, small, all_least}
-use Rattle.fb_turns.proofs.Resources.{ok_weaker}
+use Rattle.fb_check_rows.proofs.Loops.{ok_weaker}
 use Rattle.fb_turns.proofs.turns.all_counts.Goals as goal
 
 pub least-requires : goal.least-requires

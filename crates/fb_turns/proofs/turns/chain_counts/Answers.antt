@@ -12,7 +12,7 @@ use Rattle.fb_model_turns.specs.Turns.{largest}
 use Rattle.fb_turns.specs.Counting.{chain_rights, counts_in, AreLeastCounts}
 use Rattle.fb_turns.proofs.Counted.{chained}
 use Rattle.fb_turns.proofs.Ready.{closed, chain_column, chains_meet, small, chains_least}
-use Rattle.fb_turns.proofs.Resources.{ok_weaker}
+use Rattle.fb_check_rows.proofs.Loops.{ok_weaker}
 use Rattle.fb_turns.proofs.turns.chain_counts.Goals as goal
 
 pub least-requires : goal.least-requires

@@ -8,7 +8,7 @@ use Rattle.fb_work.specs.Algorithms.{OrMemory}
 use Rattle.fb_work.specs.Counting.{BoundsAllWork, IsLeastWork, IsTooMuch, work_in}
 use Rattle.fb_work.proofs.Bounding.{bounds}
 use Rattle.fb_work.proofs.Ready.{countable}
-use Rattle.fb_turns.proofs.Resources.{ok_weaker}
+use Rattle.fb_check_rows.proofs.Loops.{ok_weaker}
 use Rattle.fb_work.proofs.work.count_work.Goals as goal
 
 pub counted-requires : goal.counted-requires
