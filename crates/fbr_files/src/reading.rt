@@ -27,11 +27,21 @@ pub enum Held {
 }
 
 /// A file that was read, by its name; and the text that is meant by it, where that is another.
-#[derive(Drop)]
 pub struct FileText<'a> {
     pub name: &'a str,
     pub held: Held,
     pub meant: Option<Meant<'a>>,
+}
+
+// Written out, so that each way out of a function that owns a file has one call, and not a case for each thing that it may hold.
+impl Drop for FileText<'_> {
+    fn drop(self) {
+        let FileText {
+            name: _,
+            held: _,
+            meant: _,
+        } = self;
+    }
 }
 
 /// Reads all there is, up to one byte more than the limit.
